@@ -1,0 +1,77 @@
+-- Laws of the clock. A tick divides remainder plus amount by 2^24 and loses nothing, so that the exact time grows by
+-- just the amount; the bounds of the step are those of the amount.
+use Prim.Native.Nat.{ℕ, _+_, _*_, _-_, _<_, _≤_, _^_}
+use mathlib.Core.Path.{_≡_, refl}
+use mathlib.Core.Bool.{true, false}
+use native.Mathlib.Omega.{arith}
+use lib.Dec.{eqb}
+use borrow.Author.Tests.{leb-false, ne-eqb}
+use Rattle.model.specs.declared.Clock.{Clock}
+use Rattle.model.specs.declared.Adjustment.{Adjustment}
+use Rattle.model.specs.declared.Steering.{Steering}
+use Rattle.model.specs.Clock.{shown, endOfTime, clockAt, cycleAmount, stepBy, remainderBy, ticked, isOver}
+use Rattle.model.specs.Clock.{spent}
+use Rattle.model.specs.Clock.{noAdjustment}
+use Rattle.model.specs.Ranges.{clockOk, steeringOk, adjustmentOk}
+use Rattle.model.proofs.Laws.Tests.{split}
+use Rattle.model.proofs.Laws.Ranges.{ClockIn, clock-ok, AmountIn, steering-in, adjustment-in, adjustment-ok}
+
+-- the exact time of a clock, remainder included, in 2^-32 ns
+abbrev pub exact : Clock → ℕ
+exact k = shown k * 2 ^ 24 + k .remainder
+
+-- a step and what it leaves over make remainder plus amount
+pub step-left : (k : Clock) (amount : ℕ) → k .remainder + amount ≡ stepBy k amount * 16777216 + remainderBy k amount
+unfolding stepBy remainderBy
+step-left k amount = omega arith
+
+pub remainder-low : (k : Clock) (amount : ℕ) → remainderBy k amount < 16777216
+unfolding remainderBy
+remainder-low k amount = omega arith
+
+pub shown-ticked : (k : Clock) (amount : ℕ) → shown (ticked k amount) ≡ shown k + stepBy k amount
+unfolding ticked
+shown-ticked k amount = omega arith
+
+pub remainder-ticked : (k : Clock) (amount : ℕ) → ticked k amount .remainder ≡ remainderBy k amount
+unfolding ticked
+remainder-ticked k amount = refl
+
+pub exact-ticked : (k : Clock) (amount : ℕ) → exact (ticked k amount) ≡ exact k + amount
+exact-ticked k amount = omega (arith, shown-ticked k amount, remainder-ticked k amount, step-left k amount)
+
+pub shown-low : (k : Clock) → ClockIn k → shown k < endOfTime
+shown-low k h = omega arith
+
+-- 256 ≤ S ≤ 65,536
+pub step-bounds : (k : Clock) (amount : ℕ) → k .remainder < 2 ^ 24 → AmountIn amount
+    → (256 ≤ stepBy k amount) × (stepBy k amount ≤ 65536)
+unfolding stepBy
+step-bounds k amount r a = omega arith
+
+-- a tick that does not pass the last second leaves a clock in range
+pub ticked-ok : (k : Clock) (amount : ℕ) → shown k + stepBy k amount < endOfTime → clockOk (ticked k amount) ≡ true
+unfolding ticked
+ticked-ok k amount h =
+    clock-ok (clockAt (shown k + stepBy k amount) (remainderBy k amount)) (omega (arith, remainder-low k amount))
+
+pub cycle-amount-in : (s : Steering) → steeringOk s ≡ true → AmountIn (cycleAmount s)
+unfolding cycleAmount
+cycle-amount-in s h =
+    let f = steering-in s h in
+    split AmountIn (eqb (s .adjustment .cycles) 0)
+    (λ e. f .0)
+    (λ e. adjustment-in (s .adjustment) (f .1) e .amount)
+
+no-adjustment-ok : adjustmentOk noAdjustment ≡ true
+unfolding adjustmentOk
+no-adjustment-ok = refl
+
+pub spent-ok : (j : Adjustment) → adjustmentOk j ≡ true → adjustmentOk (spent j) ≡ true
+unfolding spent
+spent-ok j h = split (λ (x : Adjustment). adjustmentOk x ≡ true) (isOver j) (λ e. no-adjustment-ok) one-less
+  where
+    one-less : isOver j ≡ false → adjustmentOk (record { amount = j .amount; cycles = j .cycles - 1 }) ≡ true
+    one-less e =
+        let a = adjustment-in j h (ne-eqb (j .cycles) 0 (λ z. omega (arith, leb-false))) in
+        adjustment-ok _ (record { amount = a .amount; some = omega (arith, leb-false); cycles = omega (arith, a .cycles) })

@@ -1,0 +1,192 @@
+-- The ranges of check 4 as facts, part by part, both ways: each test of a list is one comparison.
+use Prim.Native.Nat.{ℕ, _*_, _<_, _≤_, _^_}
+use mathlib.Core.Path.{_≡_}
+use mathlib.Core.Bool.{true, false}
+use native.Mathlib.Omega.{arith}
+use lib.Dec.{eqb, leb, ltb}
+use borrow.Author.Tests.{ltb-true, leb-true, eqb-false, ltb-false, lt-ltb, le-leb, ne-eqb, le-ltb}
+use Rattle.model.specs.declared.Clock.{Clock}
+use Rattle.model.specs.declared.Adjustment.{Adjustment}
+use Rattle.model.specs.declared.Steering.{Steering}
+use Rattle.model.specs.declared.Generator.{Generator}
+use Rattle.model.specs.declared.Words.{Words}
+use Rattle.model.specs.declared.Engine.{Engine}
+use Rattle.model.specs.Clock.{shown}
+use Rattle.model.specs.Generator.{isRunning, isBefore, pendingTotal}
+use Rattle.model.specs.Ranges
+use Rattle.model.proofs.Laws.Tests.{facts, all-of, both, and-true, not-true-false}
+
+pub record ClockIn (k : Clock) : Type 0 where
+  pub seconds : k .seconds < 2 ^ 48
+  pub nanoseconds : k .nanoseconds < 1000000000
+  pub fraction : k .fraction < 256
+  pub remainder : k .remainder < 2 ^ 24
+
+pub clock-in : (k : Clock) → Ranges.clockOk k ≡ true → ClockIn k
+unfolding Ranges.clockOk
+clock-in k h = let f = facts (Ranges.clockTests k) h in omega (arith, ltb-true)
+
+pub clock-ok : (k : Clock) → ClockIn k → Ranges.clockOk k ≡ true
+unfolding Ranges.clockOk
+clock-ok k h = all-of (Ranges.clockTests k) (omega (arith, lt-ltb))
+
+-- an amount of a cycle: NS not 0, and 40 bits
+pub record AmountIn (x : ℕ) : Type 0 where
+  pub low : 2 ^ 32 ≤ x
+  pub high : x < 2 ^ 40
+
+pub amount-in : (x : ℕ) → Ranges.amountOk x ≡ true → AmountIn x
+amount-in x h = let f = both (leb (2 ^ 32) x) (ltb x (2 ^ 40)) h in omega (arith, ltb-true, leb-true)
+
+pub amount-ok : (x : ℕ) → AmountIn x → Ranges.amountOk x ≡ true
+amount-ok x h = and-true _ _ (le-leb _ _ (h .low)) (lt-ltb _ _ (h .high))
+
+pub steering-in : (s : Steering) → Ranges.steeringOk s ≡ true
+    → AmountIn (s .period) × (Ranges.adjustmentOk (s .adjustment) ≡ true)
+unfolding Ranges.steeringOk
+steering-in s h =
+    let f = both (Ranges.amountOk (s .period)) (Ranges.adjustmentOk (s .adjustment)) h in
+    (amount-in (s .period) (f .0), f .1)
+
+pub steering-ok : (s : Steering) → AmountIn (s .period) → Ranges.adjustmentOk (s .adjustment) ≡ true
+    → Ranges.steeringOk s ≡ true
+unfolding Ranges.steeringOk
+steering-ok s p j = and-true _ _ (amount-ok (s .period) p) j
+
+-- a running adjustment
+pub record AdjustmentIn (j : Adjustment) : Type 0 where
+  pub amount : AmountIn (j .amount)
+  pub some : 0 < j .cycles
+  pub cycles : j .cycles < 2 ^ 24
+
+pub adjustment-in : (j : Adjustment) → Ranges.adjustmentOk j ≡ true → eqb (j .cycles) 0 ≡ false → AdjustmentIn j
+unfolding Ranges.adjustmentOk
+adjustment-in j h e =
+    let f = both (Ranges.amountOk (j .amount)) (ltb (j .cycles) (2 ^ 24)) (rw e at h) in
+    let n = eqb-false (j .cycles) 0 e in
+    record { amount = amount-in (j .amount) (f .0); some = omega arith; cycles = ltb-true _ _ (f .1) }
+
+pub adjustment-ok : (j : Adjustment) → AdjustmentIn j → Ranges.adjustmentOk j ≡ true
+unfolding Ranges.adjustmentOk
+adjustment-ok j h =
+    let e = ne-eqb (j .cycles) 0 (omega arith) in
+    rw e (and-true _ _ (amount-ok (j .amount) (h .amount)) (lt-ltb _ _ (h .cycles)))
+
+-- a running generator at a time shown
+pub record RunningIn (g : Generator) (now : ℕ) : Type 0 where
+  pub seconds : g .pending .seconds < 2 ^ 48
+  pub nanoseconds : g .pending .nanoseconds < 1000000000
+  pub remainder : g .pending .remainder < g .denominator
+  pub wide : 256 ≤ g .whole
+  pub whole : g .whole ≤ 999999999
+  pub numerator : g .numerator < g .denominator
+  pub denominator : g .denominator < 2 ^ 32
+  pub some : 0 < g .left
+  pub left : g .left < 2 ^ 32
+  pub direction : g .direction ≤ 1
+  pub mark : g .mark ≤ 1
+  pub ahead : now * g .denominator ≤ pendingTotal g * 256
+
+pub running-in : (g : Generator) (now : ℕ) → Ranges.generatorOk g now ≡ true → isRunning g ≡ true → RunningIn g now
+unfolding Ranges.generatorOk isBefore
+running-in g now h r =
+    let f = facts (Ranges.runningTests g now) (rw r at h) in
+    let some = eqb-false (g .left) 0 (not-true-false (eqb (g .left) 0) r) in
+    let ahead : now * g .denominator ≤ pendingTotal g * 256 =
+    ltb-false _ _ (not-true-false _ (f .1 .1 .1 .1 .1 .1 .1 .1 .1 .1 .0))
+    in
+    omega (arith, ltb-true, leb-true)
+
+pub running-ok : (g : Generator) (now : ℕ) → RunningIn g now → Ranges.generatorOk g now ≡ true
+unfolding Ranges.generatorOk isBefore
+running-ok g now h =
+    let r = ne-eqb (g .left) 0 (omega arith) in
+    rw r
+    (all-of (Ranges.runningTests g now) (
+      lt-ltb _ _ (h .seconds),
+      (
+        lt-ltb _ _ (h .nanoseconds),
+        (
+          lt-ltb _ _ (h .remainder),
+          (
+            le-leb _ _ (h .wide),
+            (
+              le-leb _ _ (h .whole),
+              (
+                lt-ltb _ _ (h .numerator),
+                (
+                  lt-ltb _ _ (h .denominator),
+                  (
+                    lt-ltb _ _ (h .left),
+                    (
+                      le-leb _ _ (h .direction),
+                      (le-leb _ _ (h .mark), (rw (le-ltb _ _ (h .ahead)), tt)),
+                    ),
+                  ),
+                ),
+              ),
+            ),
+          ),
+        ),
+      ),
+    ))
+
+-- an idle generator is in range at every time
+pub idle-ok : (g : Generator) (now later : ℕ) → isRunning g ≡ false → Ranges.generatorOk g now ≡ true
+    → Ranges.generatorOk g later ≡ true
+unfolding Ranges.generatorOk
+idle-ok g now later r h = rw r (rw r at h)
+
+pub record WordsIn (w : Words) : Type 0 where
+  pub w1 : w .w1 < 2 ^ 16
+  pub w2 : w .w2 < 2 ^ 16
+  pub w3 : w .w3 < 2 ^ 16
+  pub w4 : w .w4 < 2 ^ 16
+  pub w5 : w .w5 < 2 ^ 16
+
+pub words-in : (w : Words) → Ranges.wordsOk w ≡ true → WordsIn w
+unfolding Ranges.wordsOk
+words-in w h = let f = facts (Ranges.wordTests w) h in omega (arith, ltb-true)
+
+pub words-ok : (w : Words) → WordsIn w → Ranges.wordsOk w ≡ true
+unfolding Ranges.wordsOk
+words-ok w h = all-of (Ranges.wordTests w) (omega (arith, lt-ltb))
+
+-- the whole record, by its parts
+pub record Valid (e : Engine) : Type 0 where
+  pub clock : Ranges.clockOk (e .clock) ≡ true
+  pub steering : Ranges.steeringOk (e .steering) ≡ true
+  pub fifo1 : Ranges.fifoOk (e .fifo1) ≡ true
+  pub fifo2 : Ranges.fifoOk (e .fifo2) ≡ true
+  pub fifo3 : Ranges.fifoOk (e .fifo3) ≡ true
+  pub generator1 : Ranges.generatorOk (e .generator1) (shown (e .clock)) ≡ true
+  pub generator2 : Ranges.generatorOk (e .generator2) (shown (e .clock)) ≡ true
+  pub interrupts : Ranges.interruptsOk (e .interrupts) ≡ true
+  pub words : Ranges.wordsOk (e .words) ≡ true
+
+pub valid-parts : (e : Engine) → Ranges.valid e ≡ true → Valid e
+unfolding Ranges.valid
+valid-parts e h =
+    let f = facts (Ranges.engineTests e) h in
+    record {
+      clock = f .0;
+      steering = f .1 .0;
+      fifo1 = f .1 .1 .0;
+      fifo2 = f .1 .1 .1 .0;
+      fifo3 = f .1 .1 .1 .1 .0;
+      generator1 = f .1 .1 .1 .1 .1 .0;
+      generator2 = f .1 .1 .1 .1 .1 .1 .0;
+      interrupts = f .1 .1 .1 .1 .1 .1 .1 .0;
+      words = f .1 .1 .1 .1 .1 .1 .1 .1 .0;
+    }
+
+pub parts-valid : (e : Engine) → Valid e → Ranges.valid e ≡ true
+unfolding Ranges.valid
+parts-valid e v =
+    all-of (Ranges.engineTests e) (
+      v .clock,
+      (
+        v .steering,
+        (v .fifo1, (v .fifo2, (v .fifo3, (v .generator1, (v .generator2, (v .interrupts, (v .words, tt))))))),
+      ),
+    )

@@ -1,0 +1,7 @@
+-- The theorems, then what they rest on.
+pub mod Demand1
+pub mod Demand2
+pub mod Demand3
+pub mod Examples
+pub mod Laws
+pub mod Follow

@@ -1,0 +1,57 @@
+-- The clock, on totals. Document 01, "The clock"; sheet 000, 6.13.1.
+use Prim.Native.Nat.{ℕ, _+_, _*_, _-_, _/_, _%_, _^_}
+use mathlib.Core.Bool.{Bool, cond}
+use lib.Dec.{eqb, leb}
+use Rattle.model.specs.declared.Clock.{Clock}
+use Rattle.model.specs.declared.Adjustment.{Adjustment}
+use Rattle.model.specs.declared.Steering.{Steering}
+
+-- the time shown, as a number of 1/256 ns
+abbrev pub shown : Clock → ℕ
+shown k = (k .seconds * 1000000000 + k .nanoseconds) * 256 + k .fraction
+
+-- the end of the last second, 2^48 s, in 1/256 ns
+abbrev pub endOfTime : ℕ
+endOfTime = 2 ^ 48 * 1000000000 * 256
+
+-- the clock that shows t, with a remainder
+abbrev pub clockAt : ℕ → ℕ → Clock
+clockAt t remainder = record {
+  seconds = t / 256 / 1000000000;
+  nanoseconds = t / 256 % 1000000000;
+  fraction = t % 256;
+  remainder = remainder;
+}
+
+-- the amount of a cycle, in 2^-32 ns: PER_ADJ while an adjustment has cycles left, else PERIOD
+unfoldable pub cycleAmount : Steering → ℕ
+cycleAmount s = cond (eqb (s .adjustment .cycles) 0) (s .period) (s .adjustment .amount)
+
+-- "the step": what a tick adds to the time shown, in 1/256 ns
+unfoldable pub stepBy : Clock → ℕ → ℕ
+stepBy k amount = (k .remainder + amount) / 2 ^ 24
+
+-- "the remainder" after a tick: what the step leaves over, in 2^-32 ns
+unfoldable pub remainderBy : Clock → ℕ → ℕ
+remainderBy k amount = (k .remainder + amount) % 2 ^ 24
+
+-- one reference cycle
+unfoldable pub ticked : Clock → ℕ → Clock
+ticked k amount = clockAt (shown k + stepBy k amount) (remainderBy k amount)
+
+abbrev pub noAdjustment : Adjustment
+noAdjustment = record { amount = 0; cycles = 0 }
+
+-- an adjustment loses one cycle with each tick, and is idle when none is left; its last sets TAC
+abbrev pub isOver : Adjustment → Bool
+isOver j = leb (j .cycles) 1
+
+unfoldable pub spent : Adjustment → Adjustment
+spent j = cond (isOver j) noAdjustment (record { amount = j .amount; cycles = j .cycles - 1 })
+
+unfoldable pub lastCycle : Adjustment → Bool
+lastCycle j = eqb (j .cycles) 1
+
+-- a TIME write clears fraction and remainder
+abbrev pub clockSet : ℕ → ℕ → Clock
+clockSet seconds nanoseconds = record { seconds = seconds; nanoseconds = nanoseconds; fraction = 0; remainder = 0 }

@@ -1,0 +1,85 @@
+-- Event generators. Document 01, "Stamps and generators"; sheet 000, 6.13.3.
+use Prim.Native.Nat.{ℕ, _+_, _*_, _-_, _/_, _%_, _^_}
+use mathlib.Core.Bool.{Bool, _&&_, _||_, not, cond}
+use lib.Dec.{eqb, leb, ltb}
+use Rattle.model.specs.declared.Instant.{Instant}
+use Rattle.model.specs.declared.Generator.{Generator}
+use Rattle.model.specs.Edges.{edgeCode}
+
+abbrev pub noInstant : Instant
+noInstant = record { seconds = 0; nanoseconds = 0; remainder = 0 }
+
+abbrev pub idleGenerator : Generator
+idleGenerator = record {
+  pending = noInstant;
+  whole = 0;
+  numerator = 0;
+  denominator = 0;
+  left = 0;
+  direction = 0;
+  mark = 0;
+}
+
+abbrev pub isRunning : Generator → Bool
+isRunning g = not (eqb (g .left) 0)
+
+-- the pending instant E times D: an exact number of 1/D ns
+abbrev pub pendingTotal : Generator → ℕ
+pendingTotal g = (g .pending .seconds * 1000000000 + g .pending .nanoseconds) * g .denominator + g .pending .remainder
+
+-- the interval W + N/D times D
+abbrev pub intervalTotal : Generator → ℕ
+intervalTotal g = g .whole * g .denominator + g .numerator
+
+-- the instant of t / D ns
+abbrev pub instantAt : ℕ → ℕ → Instant
+instantAt t d = record { seconds = t / d / 1000000000; nanoseconds = t / d % 1000000000; remainder = t % d }
+
+-- the ideal instant after the pending one
+unfoldable pub nextInstant : Generator → Instant
+nextInstant g = instantAt (pendingTotal g + intervalTotal g) (g .denominator)
+
+-- the pending instant E is below a time t of 1/256 ns
+unfoldable pub isBefore : Generator → ℕ → Bool
+isBefore g t = ltb (pendingTotal g * 256) (t * g .denominator)
+
+-- a tick of step s from a places an edge: E is below A + S
+unfoldable pub isDue : Generator → ℕ → ℕ → Bool
+isDue g a s = isRunning g && isBefore g (a + s)
+
+-- floor(8 × (E - A) / S)
+unfoldable pub eighthOf : Generator → ℕ → ℕ → ℕ
+eighthOf g a s = 8 * (pendingTotal g * 256 - a * g .denominator) / (s * g .denominator)
+
+-- the code that a tick returns for the generator
+unfoldable pub placed : Generator → ℕ → ℕ → ℕ
+placed g a s = cond (isDue g a s) (edgeCode (g .direction) (eighthOf g a s)) 0
+
+abbrev pub isLast : Generator → Bool
+isLast g = eqb (g .left) 1
+
+-- after an edge: idle where it was the last, or where the next instant is past the last second; else the next instant
+-- is pending and the direction alternates
+unfoldable pub following : Generator → Generator
+following g =
+    cond (isLast g || leb (2 ^ 48) (nextInstant g .seconds)) idleGenerator
+    (record {
+      pending = nextInstant g;
+      whole = g .whole;
+      numerator = g .numerator;
+      denominator = g .denominator;
+      left = g .left - 1;
+      direction = 1 - g .direction;
+      mark = g .mark;
+    })
+
+unfoldable pub generated : Generator → ℕ → ℕ → Generator
+generated g a s = cond (isDue g a s) (following g) g
+
+-- a marked generator sets EC with each edge
+unfoldable pub completesEvent : Generator → ℕ → ℕ → Bool
+completesEvent g a s = isDue g a s && eqb (g .mark) 1
+
+-- the last edge sets SC
+unfoldable pub completesSequence : Generator → ℕ → ℕ → Bool
+completesSequence g a s = isDue g a s && isLast g

@@ -1,0 +1,36 @@
+-- The run of a list of commands, each on the record that the last one returned. Document 01, "The ledger of demand
+-- 3".
+use Prim.Native.Nat.{ℕ}
+use mathlib.Core.List.{List, [], _∷_}
+use Rattle.model.specs.declared.Engine.{Engine}
+use Rattle.model.specs.declared.Command.{Command}
+use Rattle.model.specs.declared.Outcome.{Outcome}
+use Rattle.model.specs.declared.Words.{Words}
+use Rattle.model.specs.Record.{powerOn}
+use Rattle.model.specs.Execute.{execute}
+
+-- what an onlooker is told of one command: its fields, its answer and its five values
+pub record Entry : Type 0 where
+  pub command : Command
+  pub answer : ℕ
+  pub values : Words
+
+abbrev pub entryOf : Command → Outcome → Entry
+entryOf c o = record { command = c; answer = o .answer; values = o .values }
+
+-- the record after the list
+unfoldable pub engineFrom : Engine → List Command → Engine
+engineFrom e [] = e
+engineFrom e (c ∷ cs) = engineFrom (execute e c .engine) cs
+
+-- what was told of the list
+unfoldable pub historyFrom : Engine → List Command → List Entry
+historyFrom e [] = []
+historyFrom e (c ∷ cs) = entryOf c (execute e c) ∷ historyFrom (execute e c .engine) cs
+
+-- from power-on
+abbrev pub engineAfter : List Command → Engine
+engineAfter cs = engineFrom powerOn cs
+
+abbrev pub history : List Command → List Entry
+history cs = historyFrom powerOn cs
