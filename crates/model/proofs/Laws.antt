@@ -1,13 +1,20 @@
--- Laws of the definitions, each proved once and cited by the theorems here and by the layers above.
+-- Laws of the definitions, each proved once and cited by the theorems here and by the layers above. In a name, `-in`
+-- takes a test apart into facts, `-ok` says that a part passes its test, `-valid` that a record does, `-is` gives a
+-- fraction's value, `-test` the value of a test.
+
+-- tests and checks; the ranges of check 4 as facts
 pub mod Tests
 pub mod Ranges
+-- the parts
 pub mod Words
 pub mod Clock
 pub mod Fifo
 pub mod Generator
 pub mod Bits
-pub mod Fractions
-pub mod Lag
+-- the whole: what an accepted command has passed, and that a valid record stays valid
 pub mod Checks
 pub mod Parts
 pub mod Valid
+-- fractions, and the lag of an edge
+pub mod Fractions
+pub mod Lag

@@ -9,7 +9,7 @@ use Rattle.model.specs.declared.Outcome.{Outcome}
 use Rattle.model.specs.declared.Words.{Words}
 use Rattle.model.specs.declared.Generator.{Generator}
 use Rattle.model.specs.declared.Timestamp.{Timestamp}
-use Rattle.model.specs.Words.{noWords, secondsIn, nanosecondsIn, amountIn, countIn, timeWords}
+use Rattle.model.specs.Words.{five, noWords, secondsIn, nanosecondsIn, amountIn, countIn, timeWords}
 use Rattle.model.specs.Clock.{shown, cycleAmount, ticked, spent, lastCycle, clockSet}
 use Rattle.model.specs.Fifo.{captured, capturesFirst, overflows, entry, popped, isEmpty}
 use Rattle.model.specs.Generator.{idleGenerator, placed, generated, completesEvent, completesSequence}
@@ -60,17 +60,15 @@ tickEngine e c = record {
 
 -- op 0: v1 and v2 are the codes of generators 1 and 2
 unfoldable pub tickValues : Engine → Words
-tickValues e = record {
-  w1 = placed (e .generator1) (shown (e .clock)) (tickStep e);
-  w2 = placed (e .generator2) (shown (e .clock)) (tickStep e);
-  w3 = 0;
-  w4 = 0;
-  w5 = 0;
-}
+tickValues e =
+    five
+    (placed (e .generator1) (shown (e .clock)) (tickStep e))
+    (placed (e .generator2) (shown (e .clock)) (tickStep e))
+    0 0 0
 
 -- op 1
 abbrev pub loadedWords : Command → Words
-loadedWords c = record { w1 = c .a; w2 = c .b; w3 = c .c; w4 = c .d; w5 = c .e }
+loadedWords c = five (c .a) (c .b) (c .c) (c .d) (c .e)
 
 -- op 2, the write. TIME clears fraction and remainder and stops both generators; an adjustment and the stored
 -- timestamps remain
@@ -135,7 +133,7 @@ armedBy c = record {
 }
 
 abbrev pub justFirst : ℕ → Words
-justFirst v = record { w1 = v; w2 = 0; w3 = 0; w4 = 0; w5 = 0 }
+justFirst v = five v 0 0 0 0
 
 -- op 5: the bits are returned, then all cleared
 unfoldable pub interruptsRead : Engine → Outcome

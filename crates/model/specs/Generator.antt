@@ -58,20 +58,21 @@ placed g a s = cond (isDue g a s) (edgeCode (g .direction) (eighthOf g a s)) 0
 abbrev pub isLast : Generator → Bool
 isLast g = eqb (g .left) 1
 
--- after an edge: idle where it was the last, or where the next instant is past the last second; else the next instant
--- is pending and the direction alternates
+-- the next instant pending, one edge less, the other direction
+abbrev pub onward : Generator → Generator
+onward g = record {
+  pending = nextInstant g;
+  whole = g .whole;
+  numerator = g .numerator;
+  denominator = g .denominator;
+  left = g .left - 1;
+  direction = 1 - g .direction;
+  mark = g .mark;
+}
+
+-- after an edge: idle where it was the last, or where the next instant is past the last second
 unfoldable pub following : Generator → Generator
-following g =
-    cond (isLast g || leb (2 ^ 48) (nextInstant g .seconds)) idleGenerator
-    (record {
-      pending = nextInstant g;
-      whole = g .whole;
-      numerator = g .numerator;
-      denominator = g .denominator;
-      left = g .left - 1;
-      direction = 1 - g .direction;
-      mark = g .mark;
-    })
+following g = cond (isLast g || leb (2 ^ 48) (nextInstant g .seconds)) idleGenerator (onward g)
 
 unfoldable pub generated : Generator → ℕ → ℕ → Generator
 generated g a s = cond (isDue g a s) (following g) g

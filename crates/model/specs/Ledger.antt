@@ -5,7 +5,7 @@ use mathlib.Core.Bool.{cond}
 use lib.Dec.{eqb}
 use Rattle.model.specs.declared.Command.{Command}
 use Rattle.model.specs.declared.Words.{Words}
-use Rattle.model.specs.Words.{noWords, secondsIn, nanosecondsIn, amountIn, countIn}
+use Rattle.model.specs.Words.{five, noWords, secondsIn, nanosecondsIn, amountIn, countIn}
 use Rattle.model.specs.Run.{Entry}
 use Rattle.model.specs.Fractions.{Fraction, over, plus}
 
@@ -129,7 +129,7 @@ orderOf c = standing (over (c .b * 1000000000 + c .c) 1) (plus (over (c .d) 1) (
 unfoldable pub booked : Ledger → Command → Words → Ledger
 booked l c values =
     cond (eqb (c .op) 0) (ledgerTicked l)
-    (cond (eqb (c .op) 1) (ledgerWords l (record { w1 = c .a; w2 = c .b; w3 = c .c; w4 = c .d; w5 = c .e }))
+    (cond (eqb (c .op) 1) (ledgerWords l (five (c .a) (c .b) (c .c) (c .d) (c .e)))
     (cond (eqb (c .op) 2) (ledgerCommanded l (c .a) (c .b) values)
     (cond (eqb (c .op) 3) (ledgerOrder l (c .a) (orderOf c))
     (cond (eqb (c .op) 4) (ledgerOrder l (c .a) none)

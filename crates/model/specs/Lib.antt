@@ -1,17 +1,23 @@
--- What is true of the time engine: the definitions of document 01, to be read in this order.
+-- What is true of the time engine: the definitions of document 01, to be read in this order. The first line of each
+-- file names the section that its definitions state.
+
+-- tests, and the ordered checks
 pub mod Tests
+-- the parts: the five words, the clock and its steering, edges, timestamp FIFOs, event generators, interrupt bits
 pub mod Words
 pub mod Clock
 pub mod Edges
 pub mod Fifo
 pub mod Generator
 pub mod Interrupts
+-- the whole: the record, its ranges (number 4), the field lists (number 6), the table of checks, the ops, a run
 pub mod Record
 pub mod Ranges
 pub mod Fields
 pub mod Checks
 pub mod Execute
 pub mod Run
+-- the other side of demand 3: exact fractions, the ledger, the returned edges, and what is asked of them
 pub mod Fractions
 pub mod Ledger
 pub mod Returned

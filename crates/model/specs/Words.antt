@@ -2,8 +2,12 @@
 use Prim.Native.Nat.{ℕ, _+_, _*_, _/_, _%_, _^_}
 use Rattle.model.specs.declared.Words.{Words}
 
+-- five words, or the five values of an outcome
+abbrev pub five : ℕ → ℕ → ℕ → ℕ → ℕ → Words
+five w1 w2 w3 w4 w5 = record { w1 = w1; w2 = w2; w3 = w3; w4 = w4; w5 = w5 }
+
 abbrev pub noWords : Words
-noWords = record { w1 = 0; w2 = 0; w3 = 0; w4 = 0; w5 = 0 }
+noWords = five 0 0 0 0 0
 
 -- write 0, TIME: sec 15:0 | 31:16 | 47:32 | NS 15:0 | NS 29:16
 unfoldable pub secondsIn : Words → ℕ
@@ -37,10 +41,6 @@ countIn w = w .w3 % 2 ^ 8 * 2 ^ 16 + w .w2
 
 -- reads: sec 15:0 | 31:16 | 47:32 | NS 15:0 | EDGE, 0, NS 29:16, where EDGE is 0 for TIME (read 0)
 unfoldable pub timeWords : ℕ → ℕ → ℕ → Words
-timeWords seconds nanoseconds edge = record {
-  w1 = seconds % 2 ^ 16;
-  w2 = seconds / 2 ^ 16 % 2 ^ 16;
-  w3 = seconds / 2 ^ 32 % 2 ^ 16;
-  w4 = nanoseconds % 2 ^ 16;
-  w5 = edge * 2 ^ 15 + nanoseconds / 2 ^ 16 % 2 ^ 14;
-}
+timeWords seconds nanoseconds edge =
+    five (seconds % 2 ^ 16) (seconds / 2 ^ 16 % 2 ^ 16) (seconds / 2 ^ 32 % 2 ^ 16) (nanoseconds % 2 ^ 16)
+    (edge * 2 ^ 15 + nanoseconds / 2 ^ 16 % 2 ^ 14)

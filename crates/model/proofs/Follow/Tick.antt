@@ -22,7 +22,7 @@ use Rattle.model.specs.Instants.{ideal, AlternateFrom, Lag, LagsFrom, ei
 use Rattle.model.proofs.Laws.Ranges.{RunningIn, running-in}
 use Rattle.model.proofs.Laws.Fractions.{Is, is-over, is-finer, is-plus, is-part, is-below}
 use Rattle.model.proofs.Laws.Lag.{eighth-few, not-early, not-late}
-use Rattle.model.proofs.Laws.Generator.{onward, next-total}
+use Rattle.model.proofs.Laws.Generator.{next-total}
 use Rattle.model.proofs.Follow.Codes.{code-tells}
 use Rattle.model.proofs.Follow.Train.{instant, ideal-is, Stands, running, complete, expired, Standing}
 
@@ -114,13 +114,13 @@ module _ (s i d count done : ℕ) (g : Generator) (a : ℕ) (h : RunningIn g a) 
 
   stands-after : (last past : Bool) → Generator.isLast g ≡ last
       → leb (2 ^ 48) (Generator.nextInstant g .seconds) ≡ past
-      → Stands s i d count (done + 1) (cond (last || past) Generator.idleGenerator (onward g))
+      → Stands s i d count (done + 1) (cond (last || past) Generator.idleGenerator (Generator.onward g))
   stands-after true past l q = complete refl (omega (arith, eqb-true))
   stands-after false true l q =
       expired refl (omega (arith, eqb-false, h .some)) (beyond (leb-true (2 ^ 48) _ q))
   stands-after false false l q =
-      running (ap not (ne-eqb (g .left - 1) 0 (λ z. omega (arith, eqb-false, h .some)))) e₁ e₂ (next-total g ∙ next-instant)
-      (omega (arith, h .some)) (omega arith)
+      running (ap not (ne-eqb (g .left - 1) 0 (λ z. omega (arith, eqb-false, h .some)))) e₁ e₂
+      (next-total g ∙ next-instant) (omega (arith, h .some)) (omega arith)
 
 module _ {a s before left amount : ℕ} {l : Ledger} (t : TickIn a s before left amount l)
     {start interval : Fraction} {count : ℕ} {edges : List Edge} {g : Generator}

@@ -74,4 +74,5 @@ spent-ok j h = split (λ (x : Adjustment). adjustmentOk x ≡ true) (isOver j) (
     one-less : isOver j ≡ false → adjustmentOk (record { amount = j .amount; cycles = j .cycles - 1 }) ≡ true
     one-less e =
         let a = adjustment-in j h (ne-eqb (j .cycles) 0 (λ z. omega (arith, leb-false))) in
-        adjustment-ok _ (record { amount = a .amount; some = omega (arith, leb-false); cycles = omega (arith, a .cycles) })
+        adjustment-ok _
+        (record { amount = a .amount; some = omega (arith, leb-false); cycles = omega (arith, a .cycles) })

@@ -1,18 +1,18 @@
 -- Laws of an event generator. The interval is at least 256 ns and a step at most that, so the instant after a placed
 -- one is not below the time after the tick: a tick has at most one edge of a generator, and what is pending is never
 -- behind.
-use Prim.Native.Nat.{ℕ, _+_, _*_, _-_, _/_, _%_, _<_, _≤_, _^_}
+use Prim.Native.Nat.{ℕ, _+_, _*_, _/_, _%_, _<_, _≤_, _^_}
 use mathlib.Core.Path.{_≡_, refl}
 use mathlib.Core.Bool.{Bool, true, false, _&&_, _||_, cond}
 use native.Mathlib.Omega.{arith}
 use native.Mathlib.Nat.{mul-le-mul-right, mod-lt, div-add-mod'}
 use lib.Dec.{leb}
-use borrow.Author.Tests.{ltb-false, leb-false, eqb-false}
+use borrow.Author.Tests.{ltb-false, leb-false, eqb-false, le-ltb}
 use Rattle.model.specs.declared.Generator.{Generator}
 use Rattle.model.specs.declared.Instant.{Instant}
 use Rattle.model.specs.Generator
 use Rattle.model.specs.Ranges.{generatorOk}
-use Rattle.model.proofs.Laws.Tests.{split}
+use Rattle.model.proofs.Laws.Tests.{split, both}
 use Rattle.model.proofs.Laws.Ranges.{RunningIn, running-in, running-ok, idle-ok}
 
 -- an instant read back as a total
@@ -35,7 +35,7 @@ pub next-total : (g : Generator)
 unfolding Generator.nextInstant
 next-total g = total-at _ (g .denominator)
 
--- at most one edge in a tick: the instant after the pending one is not below A + S
+-- the instant after the pending one is not below A + S
 pub next-ahead : (g : Generator) (a s : ℕ) → RunningIn g a → s ≤ 65536
     → (a + s) * g .denominator ≤ (Generator.pendingTotal g + Generator.intervalTotal g) * 256
 next-ahead g a s h small =
@@ -47,18 +47,6 @@ pub idle-generator-ok : (now : ℕ) → generatorOk Generator.idleGenerator now 
 unfolding generatorOk
 idle-generator-ok now = refl
 
--- the generator with the next instant pending
-abbrev pub onward : Generator → Generator
-onward g = record {
-  pending = Generator.nextInstant g;
-  whole = g .whole;
-  numerator = g .numerator;
-  denominator = g .denominator;
-  left = g .left - 1;
-  direction = 1 - g .direction;
-  mark = g .mark;
-}
-
 next-low : (g : Generator) → 0 < g .denominator
     → (Generator.nextInstant g .nanoseconds < 1000000000) × (Generator.nextInstant g .remainder < g .denominator)
 unfolding Generator.nextInstant
@@ -67,7 +55,7 @@ next-low g d = (omega arith, mod-lt _ d)
 -- it is in range after the tick, where edges are left and the next instant is not past the last second
 pub onward-in : (g : Generator) (a s : ℕ) → RunningIn g a → s ≤ 65536
     → Generator.isLast g ≡ false → leb (2 ^ 48) (Generator.nextInstant g .seconds) ≡ false
-    → RunningIn (onward g) (a + s)
+    → RunningIn (Generator.onward g) (a + s)
 onward-in g a s h small more near =
     let d : 0 < g .denominator = omega (arith, h .remainder) in
     let i = next-low g d in
@@ -117,7 +105,7 @@ unfolding Generator.following
 following-ok g a s h small =
     split (GoodAt (a + s)) (Generator.isLast g || leb (2 ^ 48) (Generator.nextInstant g .seconds))
     (λ e. idle-generator-ok (a + s))
-    (λ e. let n = neither _ _ e in running-ok (onward g) (a + s) (onward-in g a s h small (n .0) (n .1)))
+    (λ e. let n = neither _ _ e in running-ok (Generator.onward g) (a + s) (onward-in g a s h small (n .0) (n .1)))
 
 -- a generator is in range after every tick
 pub generated-ok : (g : Generator) (a s : ℕ) → s ≤ 65536 → generatorOk g a ≡ true
@@ -130,3 +118,17 @@ generated-ok g a s small ok = by (Generator.isRunning g) refl (Generator.isBefor
     by true r true b = following-ok g a s (running-in g a ok r) small
     by true r false b = running-ok g (a + s) (waiting g a s (running-in g a ok r) b)
     by false r b e = idle-ok g a (a + s) r ok
+
+-- a generator has at most one edge in a tick: after one it is not due in the same tick again
+pub at-most-one-edge : (g : Generator) (a s : ℕ) → s ≤ 65536 → generatorOk g a ≡ true → Generator.isDue g a s ≡ true
+    → Generator.isDue (Generator.following g) a s ≡ false
+unfolding Generator.isDue Generator.isBefore
+at-most-one-edge g a s small ok due =
+    let r = running-in g a ok (both _ (Generator.isBefore g (a + s)) due .0) in
+    by (Generator.isRunning (Generator.following g)) refl (following-ok g a s r small)
+  where
+    by : (b : Bool) → Generator.isRunning (Generator.following g) ≡ b
+        → generatorOk (Generator.following g) (a + s) ≡ true
+        → (b && Generator.isBefore (Generator.following g) (a + s)) ≡ false
+    by true y h = le-ltb _ _ (running-in (Generator.following g) (a + s) h y .ahead)
+    by false y h = refl
