@@ -40,24 +40,8 @@ order-agrees e t c g o h some f = by (eqb (c .a) 1) refl (eqb (c .a) 2) refl
     by : (b₁ : Bool) → eqb (c .a) 1 ≡ b₁ → (b₂ : Bool) → eqb (c .a) 2 ≡ b₂
         → Agrees (withGenerator e (c .a) g) (orderedAccount t c o)
     by true z₁ true z₂ = absurd (omega (arith, eqb-true))
-    by true z₁ false z₂ =
-        rw (z₁, z₂)
-        (record {
-          words = h .words;
-          time = h .time;
-          steering = h .steering;
-          generator1 = f;
-          generator2 = h .generator2;
-        })
-    by false z₁ true z₂ =
-        rw (z₁, z₂)
-        (record {
-          words = h .words;
-          time = h .time;
-          steering = h .steering;
-          generator1 = h .generator1;
-          generator2 = f;
-        })
+    by true z₁ false z₂ = rw (z₁, z₂) (search)
+    by false z₁ true z₂ = rw (z₁, z₂) (search)
     by false z₁ false z₂ = absurd (true≢false (sym some ∙ rw (z₁, z₂)))
 
 armed-follows : (c : Command) (now : ℕ) → 256 ≤ c .d → 0 < c .f → 0 < c .g

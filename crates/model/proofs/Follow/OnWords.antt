@@ -30,13 +30,7 @@ withLedger t l = record { ledger = l; edges1 = t .edges1; edges2 = t .edges2 }
 -- new words on both sides
 words-agree : (e : Engine) (t : Account) (w : Words) → Agrees e t
     → Agrees (withWords e w) (withLedger t (Ledger.ledgerWords (t .ledger) w))
-words-agree e t w h = record {
-  words = refl;
-  time = h .time;
-  steering = h .steering;
-  generator1 = h .generator1;
-  generator2 = h .generator2;
-}
+words-agree e t w h = search
 
 -- op 1
 pub load-agrees : (e : Engine) (t : Account) (c : Command) → Agrees e t → c .op ≡ 1
@@ -60,38 +54,16 @@ module _ (e : Engine) (t : Account) (h : Agrees e t) where
       rw x at (is-finer 4294967296 (omega arith) (is-over (s * 1000000000 + n) 1 (omega arith)))
 
   time-agrees : Agrees (timeWritten e) (record { ledger = Ledger.ledgerTime (t .ledger); edges1 = []; edges2 = [] })
-  time-agrees = record {
-    words = h .words;
-    time = rw (h .words) (whole-ns (secondsIn (e .words)) (nanosecondsIn (e .words)));
-    steering = h .steering;
-    generator1 = (refl, refl);
-    generator2 = (refl, refl);
-  }
+  time-agrees = let time = whole-ns (secondsIn (e .words)) (nanosecondsIn (e .words)) in rw (h .words) (search)
 
   amount-written : Is (over (amountIn (t .ledger .words)) (2 ^ 32)) (amountIn (e .words)) (2 ^ 32)
   amount-written = rw (h .words) (is-over (amountIn (e .words)) (2 ^ 32) (omega arith))
 
   period-agrees : Agrees (periodWritten e) (withLedger t (Ledger.ledgerPeriod (t .ledger)))
-  period-agrees = record {
-    words = h .words;
-    time = h .time;
-    steering = record { periodIs = amount-written; owes = h .steering .owes; adjustIs = h .steering .adjustIs };
-    generator1 = h .generator1;
-    generator2 = h .generator2;
-  }
+  period-agrees = let period = amount-written in search
 
   adjust-agrees : Agrees (adjustWritten e) (withLedger t (Ledger.ledgerAdjust (t .ledger)))
-  adjust-agrees = record {
-    words = h .words;
-    time = h .time;
-    steering = record {
-      periodIs = h .steering .periodIs;
-      owes = ap countIn (h .words);
-      adjustIs = λ n. amount-written;
-    };
-    generator1 = h .generator1;
-    generator2 = h .generator2;
-  }
+  adjust-agrees = let adjust = amount-written in let owed = ap countIn (h .words) in search
 
   write-agrees : (a : ℕ) → Agrees (written e a) (writtenAccount t a)
   unfolding written Ledger.ledgerWritten

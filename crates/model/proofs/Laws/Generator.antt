@@ -77,20 +77,7 @@ onward-in g a s h small more near =
 -- a running generator that is not due is not behind after the tick either
 waiting : (g : Generator) (a s : ℕ) → RunningIn g a → Generator.isBefore g (a + s) ≡ false → RunningIn g (a + s)
 unfolding Generator.isBefore
-waiting g a s h b = record {
-  seconds = h .seconds;
-  nanoseconds = h .nanoseconds;
-  remainder = h .remainder;
-  wide = h .wide;
-  whole = h .whole;
-  numerator = h .numerator;
-  denominator = h .denominator;
-  some = h .some;
-  left = h .left;
-  direction = h .direction;
-  mark = h .mark;
-  ahead = ltb-false _ _ b;
-}
+waiting g a s h b = omega (arith, ltb-false)
 
 neither : (a b : Bool) → (a || b) ≡ false → (a ≡ false) × (b ≡ false)
 neither true b h = (h, cc)

@@ -36,64 +36,28 @@ none-latched = refl
 
 -- one part replaced
 pub words-valid : (e : Engine) (w : Words) → Valid e → WordsIn w → Valid (Record.withWords e w)
-words-valid e w v h = record {
-  clock = v .clock;
-  steering = v .steering;
-  fifo1 = v .fifo1;
-  fifo2 = v .fifo2;
-  fifo3 = v .fifo3;
-  generator1 = v .generator1;
-  generator2 = v .generator2;
-  interrupts = v .interrupts;
-  words = words-ok w h;
-}
+words-valid e w v h = let ok = words-ok w h in search
 
 pub steering-valid : (e : Engine) (s : Steering) → Valid e → Ranges.steeringOk s ≡ true
     → Valid (Record.withSteering e s)
-steering-valid e s v h = record {
-  clock = v .clock;
-  steering = h;
-  fifo1 = v .fifo1;
-  fifo2 = v .fifo2;
-  fifo3 = v .fifo3;
-  generator1 = v .generator1;
-  generator2 = v .generator2;
-  interrupts = v .interrupts;
-  words = v .words;
-}
+steering-valid e s v h = search
 
 pub interrupts-valid : (e : Engine) (i : Interrupts) → Valid e → Ranges.interruptsOk i ≡ true
     → Valid (Record.withInterrupts e i)
-interrupts-valid e i v h = record {
-  clock = v .clock;
-  steering = v .steering;
-  fifo1 = v .fifo1;
-  fifo2 = v .fifo2;
-  fifo3 = v .fifo3;
-  generator1 = v .generator1;
-  generator2 = v .generator2;
-  interrupts = h;
-  words = v .words;
-}
+interrupts-valid e i v h = search
 
 -- the FIFO, or the generator, of a number replaced
-abbrev pub FifoOk : Fifo → Type 0
+abbrev FifoOk : Fifo → Type 0
 FifoOk f = Ranges.fifoOk f ≡ true
 
-pub fifo-valid : (e : Engine) (n : ℕ) (f : Fifo) → Valid e → FifoOk f → Valid (Record.withFifo e n f)
-fifo-valid e n f v h = record {
-  clock = v .clock;
-  steering = v .steering;
-  fifo1 = split FifoOk (eqb n 1) (λ y. h) (λ y. v .fifo1);
-  fifo2 = split FifoOk (eqb n 1) (λ y. v .fifo2) (λ y. split FifoOk (eqb n 2) (λ z. h) (λ z. v .fifo2));
-  fifo3 = split FifoOk (eqb n 1) (λ y. v .fifo3) (λ y. split FifoOk (eqb n 2) (λ z. v .fifo3) (λ z. h));
-  generator1 = v .generator1;
-  generator2 = v .generator2;
-  interrupts = v .interrupts;
-  words = v .words;
-}
+pub fifo-valid : (e : Engine) (n : ℕ) (f : Fifo) → Valid e → Ranges.fifoOk f ≡ true → Valid (Record.withFifo e n f)
+fifo-valid e n f v h =
+    let f₁ = split FifoOk (eqb n 1) (λ y. h) (λ y. v .fifo1) in
+    let f₂ = split FifoOk (eqb n 1) (λ y. v .fifo2) (λ y. split FifoOk (eqb n 2) (λ z. h) (λ z. v .fifo2)) in
+    let f₃ = split FifoOk (eqb n 1) (λ y. v .fifo3) (λ y. split FifoOk (eqb n 2) (λ z. v .fifo3) (λ z. h)) in
+    search
 
-pub fifo-at-ok : (e : Engine) (n : ℕ) → Valid e → FifoOk (Record.fifo e n)
+pub fifo-at-ok : (e : Engine) (n : ℕ) → Valid e → Ranges.fifoOk (Record.fifo e n) ≡ true
 fifo-at-ok e n v =
     split FifoOk (eqb n 1) (λ y. v .fifo1) (λ y. split FifoOk (eqb n 2) (λ z. v .fifo2) (λ z. v .fifo3))
 
@@ -102,14 +66,7 @@ GeneratorOk now g = Ranges.generatorOk g now ≡ true
 
 pub generator-valid : (e : Engine) (n : ℕ) (g : Generator) → Valid e → GeneratorOk (shown (e .clock)) g
     → Valid (Record.withGenerator e n g)
-generator-valid e n g v h = record {
-  clock = v .clock;
-  steering = v .steering;
-  fifo1 = v .fifo1;
-  fifo2 = v .fifo2;
-  fifo3 = v .fifo3;
-  generator1 = split (GeneratorOk (shown (e .clock))) (eqb n 1) (λ y. h) (λ y. v .generator1);
-  generator2 = split (GeneratorOk (shown (e .clock))) (eqb n 1) (λ y. v .generator2) (λ y. h);
-  interrupts = v .interrupts;
-  words = v .words;
-}
+generator-valid e n g v h =
+    let g₁ = split (GeneratorOk (shown (e .clock))) (eqb n 1) (λ y. h) (λ y. v .generator1) in
+    let g₂ = split (GeneratorOk (shown (e .clock))) (eqb n 1) (λ y. v .generator2) (λ y. h) in
+    search

@@ -1,7 +1,7 @@
 -- The ranges of check 4 as facts, part by part, both ways: each test of a list is one comparison.
 use Prim.Native.Nat.{ℕ, _*_, _<_, _≤_, _^_}
 use mathlib.Core.Path.{_≡_}
-use mathlib.Core.Bool.{true, false}
+use mathlib.Core.Bool.{true, false, not}
 use native.Mathlib.Omega.{arith}
 use lib.Dec.{eqb, leb, ltb}
 use borrow.Author.Tests.{ltb-true, leb-true, eqb-false, ltb-false, lt-ltb, le-leb, ne-eqb, le-ltb}
@@ -87,49 +87,24 @@ pub record RunningIn (g : Generator) (now : ℕ) : Type 0 where
   pub mark : g .mark ≤ 1
   pub ahead : now * g .denominator ≤ pendingTotal g * 256
 
+ltb-not : (a b : ℕ) → not (ltb a b) ≡ true → b ≤ a
+ltb-not a b h = ltb-false a b (not-true-false (ltb a b) h)
+
 pub running-in : (g : Generator) (now : ℕ) → Ranges.generatorOk g now ≡ true → isRunning g ≡ true → RunningIn g now
 unfolding Ranges.generatorOk isBefore
 running-in g now h r =
     let f = facts (Ranges.runningTests g now) (rw r at h) in
     let some = eqb-false (g .left) 0 (not-true-false (eqb (g .left) 0) r) in
-    let ahead : now * g .denominator ≤ pendingTotal g * 256 =
-    ltb-false _ _ (not-true-false _ (f .1 .1 .1 .1 .1 .1 .1 .1 .1 .1 .0))
-    in
-    omega (arith, ltb-true, leb-true)
+    omega (arith, ltb-true, leb-true, ltb-not)
+
+not-ltb : (a b : ℕ) → b ≤ a → not (ltb a b) ≡ true
+not-ltb a b h = rw (le-ltb a b h)
 
 pub running-ok : (g : Generator) (now : ℕ) → RunningIn g now → Ranges.generatorOk g now ≡ true
 unfolding Ranges.generatorOk isBefore
 running-ok g now h =
     let r = ne-eqb (g .left) 0 (omega arith) in
-    rw r
-    (all-of (Ranges.runningTests g now) (
-      lt-ltb _ _ (h .seconds),
-      (
-        lt-ltb _ _ (h .nanoseconds),
-        (
-          lt-ltb _ _ (h .remainder),
-          (
-            le-leb _ _ (h .wide),
-            (
-              le-leb _ _ (h .whole),
-              (
-                lt-ltb _ _ (h .numerator),
-                (
-                  lt-ltb _ _ (h .denominator),
-                  (
-                    lt-ltb _ _ (h .left),
-                    (
-                      le-leb _ _ (h .direction),
-                      (le-leb _ _ (h .mark), (rw (le-ltb _ _ (h .ahead)), tt)),
-                    ),
-                  ),
-                ),
-              ),
-            ),
-          ),
-        ),
-      ),
-    ))
+    rw r (all-of (Ranges.runningTests g now) (omega (arith, lt-ltb, le-leb, not-ltb)))
 
 -- an idle generator is in range at every time
 pub idle-ok : (g : Generator) (now later : ℕ) → isRunning g ≡ false → Ranges.generatorOk g now ≡ true
@@ -166,27 +141,8 @@ pub record Valid (e : Engine) : Type 0 where
 
 pub valid-parts : (e : Engine) → Ranges.valid e ≡ true → Valid e
 unfolding Ranges.valid
-valid-parts e h =
-    let f = facts (Ranges.engineTests e) h in
-    record {
-      clock = f .0;
-      steering = f .1 .0;
-      fifo1 = f .1 .1 .0;
-      fifo2 = f .1 .1 .1 .0;
-      fifo3 = f .1 .1 .1 .1 .0;
-      generator1 = f .1 .1 .1 .1 .1 .0;
-      generator2 = f .1 .1 .1 .1 .1 .1 .0;
-      interrupts = f .1 .1 .1 .1 .1 .1 .1 .0;
-      words = f .1 .1 .1 .1 .1 .1 .1 .1 .0;
-    }
+valid-parts e h = let f = facts (Ranges.engineTests e) h in search
 
 pub parts-valid : (e : Engine) → Valid e → Ranges.valid e ≡ true
 unfolding Ranges.valid
-parts-valid e v =
-    all-of (Ranges.engineTests e) (
-      v .clock,
-      (
-        v .steering,
-        (v .fifo1, (v .fifo2, (v .fifo3, (v .generator1, (v .generator2, (v .interrupts, (v .words, tt))))))),
-      ),
-    )
+parts-valid e v = all-of (Ranges.engineTests e) (search)

@@ -74,18 +74,11 @@ module _ (e : Engine) (c : Command) (o : c .op ≡ 2) (k : Accepted e c) where
 
   time-valid : eqb (c .a) 0 ≡ true → Valid (Execute.timeWritten e)
   time-valid h =
+      let parts = v in
       let f = k .check8 (writes 0 h) in
-      record {
-        clock = clock-ok (Execute.timeWritten e .clock) (omega (arith, seconds-in-low (e .words) w));
-        steering = v .steering;
-        fifo1 = v .fifo1;
-        fifo2 = v .fifo2;
-        fifo3 = v .fifo3;
-        generator1 = idle-generator-ok _;
-        generator2 = idle-generator-ok _;
-        interrupts = v .interrupts;
-        words = v .words;
-      }
+      let clock = clock-ok (Execute.timeWritten e .clock) (omega (arith, seconds-in-low (e .words) w)) in
+      let idle = idle-generator-ok (shown (Execute.timeWritten e .clock)) in
+      search
 
   amount-in : (Checks.writes c 1 || Checks.writes c 2) ≡ true → AmountIn (Words.amountIn (e .words))
   amount-in h = amount-words-in (e .words) w (k .check9 h)
