@@ -11,10 +11,11 @@ pub mod Clock
 pub mod Fifo
 pub mod Generator
 pub mod Bits
--- the whole: what an accepted command has passed, and that a valid record stays valid
+-- the whole: what an accepted command has passed, that a valid record stays valid, and outcomes
 pub mod Checks
 pub mod Parts
 pub mod Valid
+pub mod Outcomes
 -- fractions, and the lag of an edge
 pub mod Fractions
 pub mod Lag

@@ -1,12 +1,13 @@
 -- The table of document 01, "Where each command is checked": checks run from the top, and the first that fails is the
 -- answer.
-use Prim.Native.Nat.{ℕ, _+_, _*_}
+use Prim.Native.Nat.{ℕ, _+_, _*_, _-_, _<_, _≤_}
+use mathlib.Core.Path.{_≡_}
 use mathlib.Core.List.{List, [], _∷_}
-use mathlib.Core.Bool.{Bool, true, _&&_, _||_, not}
+use mathlib.Core.Bool.{Bool, true, false, _&&_, _||_, not}
 use lib.Dec.{eqb, leb, ltb}
 use Rattle.model.specs.declared.Engine.{Engine}
 use Rattle.model.specs.declared.Command.{Command}
-use Rattle.model.specs.Tests.{Check, check, firstFailed}
+use Rattle.model.specs.Tests.{Check, check, holdsAt, firstFailed}
 use Rattle.model.specs.Words.{nanosecondsIn, aboveNanoseconds, wholeIn, belowFrac, countIn}
 use Rattle.model.specs.Clock.{shown, endOfTime, cycleAmount, stepBy}
 use Rattle.model.specs.Fifo.{isEmpty}
@@ -58,3 +59,12 @@ checks e c = recordCheck e ∷ laterChecks e c
 
 unfoldable pub answerOf : Engine → Command → ℕ
 answerOf e c = firstFailed (checks e c)
+
+-- whether check n of the table, 4 to 15, holds
+abbrev pub passes : Engine → Command → ℕ → Bool
+passes e c n = holdsAt (checks e c) (n - 4)
+
+-- "a number has no other cause": check n fails, and every check above it passes
+pub record Cause (e : Engine) (c : Command) (n : ℕ) : Type 0 where
+  pub fails : passes e c n ≡ false
+  pub above : (m : ℕ) → 4 ≤ m → m < n → passes e c m ≡ true

@@ -27,6 +27,12 @@ pub record Check : Type 0 where
 abbrev pub check : ℕ → Bool → Bool → Check
 check n applies test = record { number = n; holds = not applies || test }
 
+-- whether the check at a place of a list holds, places counted from 0
+abbrev pub holdsAt : List Check → ℕ → Bool
+holdsAt [] i = true
+holdsAt (k ∷ ks) zero = k .holds
+holdsAt (k ∷ ks) (suc i) = holdsAt ks i
+
 -- the number of the first check that fails, 0 where none does
 abbrev pub firstFailed : List Check → ℕ
 firstFailed [] = 0

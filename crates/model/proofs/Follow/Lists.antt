@@ -21,6 +21,7 @@ use Rattle.model.proofs.Laws.Ranges.{Valid, valid-parts, clock-in}
 use Rattle.model.proofs.Laws.Clock.{shown-low}
 use Rattle.model.proofs.Laws.Fractions.{Is, is-over, is-finer, is-plus, is-same, is-below, is-not-above}
 use Rattle.model.proofs.Laws.Valid.{power-on-valid, execute-valid}
+use Rattle.model.proofs.Laws.Outcomes.{list-valid}
 use Rattle.model.proofs.Follow.Train.{standing-passed}
 use Rattle.model.proofs.Follow.Agrees.{Agrees, Follows}
 use Rattle.model.proofs.Follow.OnCommand.{execute-agrees}
@@ -47,21 +48,12 @@ power-on-agrees = record {
   generator2 = (refl, refl);
 }
 
-run-valid : (cs : List Command) (e : Engine) → valid e ≡ true → valid (engineFrom e cs) ≡ true
-unfolding engineFrom
-run-valid [] e v = v
-run-valid (c ∷ cs) e v = run-valid cs (execute e c .engine) (execute-valid e c v)
-
 module _ (cs : List Command) where
-  -- a record of a list from power-on is valid
-  pub list-valid : valid (engineAfter cs) ≡ true
-  list-valid = run-valid cs powerOn power-on-valid
-
   agrees : Agrees (engineAfter cs) (accountAfter cs)
   agrees = run-agrees cs powerOn _ power-on-valid power-on-agrees
 
   parts : Valid (engineAfter cs)
-  parts = valid-parts (engineAfter cs) list-valid
+  parts = valid-parts (engineAfter cs) (list-valid cs)
 
   -- the three times, in 2^-32 ns
   shown-is : Is (timeShown (engineAfter cs)) (shown (engineAfter cs .clock) * 16777216) (2 ^ 32)

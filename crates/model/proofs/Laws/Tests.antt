@@ -7,7 +7,7 @@ use lib.ListN.{length}
 use native.Mathlib.Nat.{add-zero, add-suc}
 use native.Mathlib.Decide.{ℕ-discrete}
 use native.Mathlib.Omega.{arith}
-use Rattle.model.specs.Tests.{every, everyBelow, countBelow, Check, firstFailed}
+use Rattle.model.specs.Tests.{every, everyBelow, countBelow, Check, holdsAt, firstFailed}
 
 -- both arms of a test, each with what the test said
 pub split : {A : Type 0} (P : A → Type 0) (b : Bool) {x y : A} → (b ≡ true → P x) → (b ≡ false → P y) → P (cond b x y)
@@ -79,12 +79,6 @@ pub count-first : (k m : ℕ) (test : ℕ → Bool)
 unfolding countBelow
 count-first k zero test h g = rw add-zero (count-full k test h)
 count-first k (suc m) test h g = rw (add-suc, g (k + m) (omega arith)) (count-first k m test h g)
-
--- the test of the check at a place of a list
-abbrev pub holdsAt : List Check → ℕ → Bool
-holdsAt [] i = true
-holdsAt (k ∷ ks) zero = k .holds
-holdsAt (k ∷ ks) (suc i) = holdsAt ks i
 
 -- the checks are numbered n, n + 1, ..
 abbrev pub Numbered : ℕ → List Check → Type 0
