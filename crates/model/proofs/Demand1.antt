@@ -11,12 +11,13 @@ use Rattle.model.specs.declared.Command.{Command}
 use Rattle.model.specs.Checks.{passes, Cause}
 use Rattle.model.specs.Execute.{execute, refused}
 use Rattle.model.specs.Run.{engineAfter}
+use Rattle.model.proofs.Laws.Checks.{execute-refused}
 use Rattle.model.proofs.Laws.Outcomes
 
 -- a refused command gives its number, five zeros and the same record
 pub refusal : (e : Engine) (c : Command) → (execute e c .answer ≡ 0 → ⊥)
     → execute e c ≡ refused e (execute e c .answer)
-refusal = Outcomes.refused-outcome
+refusal = execute-refused
 
 -- the answer is n exactly when check n fails and every check above it passes
 pub one-cause : (e : Engine) (c : Command) (n : ℕ) → 4 ≤ n → n ≤ 15 → (execute e c .answer ≡ n) ↔ Cause e c n

@@ -14,6 +14,7 @@ pub mod Bits
 -- the whole: what an accepted command has passed, that a valid record stays valid, and outcomes
 pub mod Checks
 pub mod Parts
+pub mod Interrupts
 pub mod Valid
 pub mod Outcomes
 -- fractions, and the lag of an edge

@@ -3,7 +3,7 @@
 use Prim.Native.Nat.{ℕ, _+_, _*_, _<_, _≤_}
 use mathlib.Core.Path.{_≡_, refl, sym, ap, _∙_}
 use mathlib.Core.List.{[]}
-use mathlib.Core.Bool.{Bool, true, false, _||_, not, cond, true≢false}
+use mathlib.Core.Bool.{or-false, Bool, true, false, _||_, not, cond, true≢false}
 use native.Mathlib.Omega.{arith}
 use native.Mathlib.Nat.{mul-le-mul-right}
 use lib.Dec.{eqb}
@@ -19,7 +19,6 @@ use Rattle.model.specs.Execute.{accepted, armedBy}
 use Rattle.model.specs.Ledger
 use Rattle.model.specs.Ledger.{Order, none}
 use Rattle.model.specs.Returned.{Account, edgesTold}
-use Rattle.model.proofs.Laws.Tests.{or-false}
 use Rattle.model.proofs.Laws.Fractions.{is-over}
 use Rattle.model.proofs.Laws.Checks.{Accepted, arm-fields, stop-fields}
 use Rattle.model.proofs.Follow.Train.{running}

@@ -13,7 +13,7 @@ use lib.Bits.{bitOr, or-shr, or-mod, or-zero-r, or-step, or-lt}
 use borrow.Author.Tests.{ltb-true, eqb-true, eqb-false, leb-true, lt-ltb, le-leb}
 use Rattle.model.specs.Tests.{everyBelow}
 use Rattle.model.specs.Interrupts.{positions, bit, hasBit, withBit, latch, onlyBits, latchedMask}
-use Rattle.model.proofs.Laws.Tests.{both, and-true, below-all, all-below}
+use Rattle.model.proofs.Laws.Tests.{both, both-true, below-all, all-below}
 
 -- bitOr with 1 makes a number odd
 or-one : (h : ℕ) → bitOr h 1 ≡ h / 2 * 2 + 1
@@ -78,7 +78,7 @@ pub only-bits-from : (mask x : ℕ) → x < 2 ^ 16 → ((j : ℕ) → j < 16 →
 unfolding onlyBits
 only-bits-from mask x l h =
     let t = all-below 16 (within mask x) (λ j i. le-leb (bit j x) (bit j mask) (h j i)) in
-    and-true (ltb x (2 ^ 16)) (everyBelow 16 (within mask x)) (lt-ltb x (2 ^ 16) l) t
+    both-true (ltb x (2 ^ 16)) (everyBelow 16 (within mask x)) (lt-ltb x (2 ^ 16) l) t
 
 -- setting a bit of the mask keeps the word within the mask, and so does latching at the positions of a table
 pub only-bits-with : (mask k x : ℕ) → k < 16 → bit k mask ≡ 1 → onlyBits mask x ≡ true

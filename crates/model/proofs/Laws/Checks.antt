@@ -2,9 +2,9 @@
 -- where it applies, is then a fact.
 use Prim.Native.Nat.{ℕ, suc, _+_, _*_, _<_, _≤_}
 use mathlib.Core.Path.{_≡_, refl, sym, _∙_}
-use mathlib.Core.Bool.{true, false, _||_, not}
+use mathlib.Core.Bool.{true, false, _||_, not, Bool, _&&_, and-false}
 use native.Mathlib.Omega.{arith}
-use lib.Dec.{eqb}
+use lib.Dec.{eqb, leb}
 use borrow.Author.Tests.{ltb-true, leb-true, eqb-true, eqb-false, eq-eqb, ne-eqb}
 use Rattle.model.specs.declared.Engine.{Engine}
 use Rattle.model.specs.declared.Command.{Command}
@@ -35,6 +35,7 @@ pub record Accepted (e : Engine) (c : Command) : Type 0 where
   pub check8 : Checks.writes c 0 ≡ true
       → (Words.nanosecondsIn (e .words) ≤ 999999999) × (Words.aboveNanoseconds (e .words) ≡ 0)
   pub check9 : (Checks.writes c 1 || Checks.writes c 2) ≡ true → 1 ≤ Words.wholeIn (e .words)
+  pub check9byte : Checks.writes c 1 ≡ true → Words.belowFrac (e .words) ≡ 0
   pub check10 : Checks.writes c 2 ≡ true → 1 ≤ Words.countIn (e .words)
   pub check11 : Checks.writes c 2 ≡ true → e .steering .adjustment .cycles ≡ 0
   pub check12 : Checks.isOp c 3 ≡ true → c .e < c .f
@@ -44,6 +45,19 @@ pub record Accepted (e : Engine) (c : Command) : Type 0 where
 
 few-ops : (c : Command) → Checks.isKnown c ≡ true → c .op ≤ 8
 few-ops c h = omega (arith, leb-true)
+
+-- a PERIOD write is no adjust write, so that check 9 asks for its byte too
+only-period : (c : Command) → Checks.writes c 1 ≡ true → Checks.writes c 2 ≡ false
+only-period c h =
+    let one = both (Checks.isOp c 2) (eqb (c .a) 1) h .1 in
+    rw (ne-eqb (c .a) 2 (λ z. omega (arith, eqb-true))) (and-false (Checks.isOp c 2))
+
+byte-asked : (period adjust whole byte : Bool) → (not (period || adjust) || (whole && (adjust || byte))) ≡ true
+    → period ≡ true → adjust ≡ false → byte ≡ true
+byte-asked true true whole byte h p a = cc
+byte-asked true false true byte h p a = h
+byte-asked true false false byte h p a = cc
+byte-asked false adjust whole byte h p a = cc
 
 pub accepted-facts : (e : Engine) (c : Command) → Checks.answerOf e c ≡ 0 → Accepted e c
 unfolding Checks.answerOf Checks.checks
@@ -56,6 +70,7 @@ accepted-facts e c h =
       check7 = asked _ _ (f 3);
       check8 = λ a. let p = both _ _ (asked _ _ (f 4) a) in (leb-true _ _ (p .0), eqb-true _ _ (p .1));
       check9 = λ a. leb-true _ _ (both _ _ (asked _ _ (f 5) a) .0);
+      check9byte = λ a. eqb-true _ _ (byte-asked _ _ (leb 1 (Words.wholeIn (e .words))) _ (f 5) a (only-period c a));
       check10 = λ a. leb-true _ _ (asked _ _ (f 6) a);
       check11 = λ a. eqb-true _ _ (asked _ _ (f 7) a);
       check12 = λ a. ltb-true _ _ (asked _ _ (f 8) a);

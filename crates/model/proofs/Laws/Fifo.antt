@@ -12,7 +12,7 @@ use mathlib.Core.Bool.{Bool, true, false, _||_, cond}
 use lib.ListN.{getD, set}
 use lib.Seq.{getD-set-other}
 use lib.Dec.{eqb, leb, ltb, leb·suc-suc}
-use borrow.Author.Tests.{ltb-true, leb-true, leb-false, eqb-false, lt-ltb, le-ltb, le-leb}
+use borrow.Author.Tests.{eqb-true, ltb-true, leb-true, leb-false, eqb-false, lt-ltb, le-ltb, le-leb}
 use Rattle.model.specs.declared.Timestamp.{Timestamp}
 use Rattle.model.specs.declared.Fifo.{Fifo}
 use Rattle.model.specs.Clock.{endOfTime}
@@ -21,7 +21,7 @@ use Rattle.model.specs.Fifo.{noTimestamp, emptyFifo, timestampNs, timest
 use Rattle.model.specs.Fifo.{isEmpty, isFull, captured, entry, popped}
 use Rattle.model.specs.Ranges.{secondsOk, nanosecondsOk, timestampOk, timestampZero, placeOk, fifoOk}
 use Rattle.model.specs.Tests.{everyBelow}
-use Rattle.model.proofs.Laws.Tests.{both, and-true, facts, all-of, below-all, all-below}
+use Rattle.model.proofs.Laws.Tests.{both, both-true, facts, all-of, below-all, all-below}
 
 pub empty-fifo-ok : fifoOk emptyFifo ≡ true
 unfolding fifoOk placeOk timestampOk
@@ -40,9 +40,12 @@ rising-small : (low : Bool) → cond low 0 1 ≤ 1
 rising-small true = omega arith
 rising-small false = omega arith
 
--- the tests of `timestampOk`
+-- the tests of `timestampOk` and of `timestampZero`
 abbrev timestampTests : Timestamp → List Bool
 timestampTests t = secondsOk (t .seconds) ∷ nanosecondsOk (t .nanoseconds) ∷ leb (t .rising) 1 ∷ []
+
+abbrev zeroTests : Timestamp → List Bool
+zeroTests t = eqb (t .seconds) 0 ∷ eqb (t .nanoseconds) 0 ∷ eqb (t .rising) 0 ∷ []
 
 pub timestamp-ok : (a s code : ℕ) → code ≤ 16 → a + s < endOfTime → timestampOk (timestampOf a s code) ≡ true
 unfolding timestampOk timestampOf timestampNs
@@ -74,18 +77,30 @@ in-range f h =
 
 fifo-ok : (f : Fifo) → InRange f → fifoOk f ≡ true
 unfolding fifoOk
-fifo-ok f r = and-true _ _ (le-leb (f .count) 8 (r .few)) (all-below 8 (placeOk f) (r .places))
+fifo-ok f r = both-true _ _ (le-leb (f .count) 8 (r .few)) (all-below 8 (placeOk f) (r .places))
 
-pub oldest-in-range :
-    (f : Fifo) →
-    isEmpty f ≡ false →
-    fifoOk f ≡ true →
-    (entry f 0 .seconds < 2 ^ 48) × (entry f 0 .nanoseconds < 1000000000) × (entry f 0 .rising ≤ 1)
+-- a used place holds a timestamp in range
+pub used-in : (f : Fifo) (i : ℕ) → fifoOk f ≡ true → i < 8 → i < f .count
+    → (entry f i .seconds < 2 ^ 48) × (entry f i .nanoseconds < 1000000000) × (entry f i .rising ≤ 1)
 unfolding timestampOk
-oldest-in-range f e h =
-    let u : 0 < f .count = omega (arith, eqb-false) in
-    let t = facts (timestampTests (entry f 0)) (sym (place-used f 0 u) ∙ in-range f h .places 0 (omega arith)) in
+used-in f i h l u =
+    let t = facts (timestampTests (entry f i)) (sym (place-used f i u) ∙ in-range f h .places i l) in
     omega (arith, ltb-true, leb-true)
+
+-- an unused place is all zeros
+pub unused-in : (f : Fifo) (i : ℕ) → fifoOk f ≡ true → i < 8 → f .count ≤ i → entry f i ≡ noTimestamp
+unused-in f i h l u =
+    let t = facts (zeroTests (entry f i)) (sym (place-unused f i u) ∙ in-range f h .places i l) in
+    let s = eqb-true _ _ (t .0) in
+    let n = eqb-true _ _ (t .1 .0) in
+    let r = eqb-true _ _ (t .1 .1 .0) in
+    λ j. record { seconds = s j; nanoseconds = n j; rising = r j }
+
+pub oldest-rising : (f : Fifo) → isEmpty f ≡ false → fifoOk f ≡ true → entry f 0 .rising ≤ 1
+oldest-rising f e h = used-in f 0 h (omega arith) (omega (arith, eqb-false)) .2
+
+pub count-in : (f : Fifo) → fifoOk f ≡ true → f .count ≤ 8
+count-in f h = in-range f h .few
 
 -- ---- a capture
 

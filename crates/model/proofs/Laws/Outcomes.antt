@@ -13,18 +13,14 @@ use Rattle.model.specs.Words.{secondsIn, nanosecondsIn, timeWords}
 use Rattle.model.specs.Ranges.{valid}
 use Rattle.model.specs.Record.{powerOn}
 use Rattle.model.specs.Checks.{checks, answerOf, passes, Cause}
-use Rattle.model.specs.Execute.{execute, refused, performed, commanded, written, readWords, readEngine}
+use Rattle.model.specs.Execute.{execute, performed, commanded, written, readWords, readEngine}
 use Rattle.model.specs.Run.{engineFrom, engineAfter}
-use Rattle.model.proofs.Laws.Tests.{and-true, fails-answer, answer-fails, answer-none, none-answer}
+use Rattle.model.proofs.Laws.Tests.{both-true, fails-answer, answer-fails, answer-none, none-answer}
 use Rattle.model.proofs.Laws.Tests.{answer-least, answer-most}
 use Rattle.model.proofs.Laws.Ranges.{valid-parts, words-in}
 use Rattle.model.proofs.Laws.Words.{words-of-time}
-use Rattle.model.proofs.Laws.Checks.{numbered, execute-answer, execute-refused, execute-accepted}
+use Rattle.model.proofs.Laws.Checks.{numbered, execute-answer, execute-accepted}
 use Rattle.model.proofs.Laws.Valid.{power-on-valid, execute-valid}
-
-pub refused-outcome : (e : Engine) (c : Command) → (execute e c .answer ≡ 0 → ⊥)
-    → execute e c ≡ refused e (execute e c .answer)
-refused-outcome = execute-refused
 
 -- the place of check number i + 4
 back : (i : ℕ) → i + 4 - 4 ≡ i
@@ -91,5 +87,5 @@ pub time-written-read : (e : Engine) (c : Command) → c .op ≡ 2 → c .a ≡ 
 time-written-read e c o a b h =
     let k = execute-accepted e c h in
     let w = words-in (e .words) (valid-parts e (k .0 .valid) .words) in
-    let high = k .0 .check8 (and-true _ _ (eq-eqb _ _ o) (eq-eqb _ _ a)) .1 in
+    let high = k .0 .check8 (both-true _ _ (eq-eqb _ _ o) (eq-eqb _ _ a)) .1 in
     rw (k .1) (written-read e c o a b (words-of-time (e .words) w high))

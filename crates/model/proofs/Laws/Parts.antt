@@ -14,7 +14,7 @@ use Rattle.model.specs.Clock.{shown}
 use Rattle.model.specs.Interrupts.{onlyBits, latchedMask, enabledMask}
 use Rattle.model.specs.Record
 use Rattle.model.specs.Ranges
-use Rattle.model.proofs.Laws.Tests.{split, both, and-true}
+use Rattle.model.proofs.Laws.Tests.{split, both, both-true}
 use Rattle.model.proofs.Laws.Ranges.{Valid}
 use Rattle.model.proofs.Laws.Ranges.{WordsIn, words-ok}
 
@@ -28,7 +28,7 @@ pub interrupts-ok : (i : Interrupts) → onlyBits latchedMask (i .latched) ≡ t
     → onlyBits enabledMask (i .enabled) ≡ true
     → Ranges.interruptsOk i ≡ true
 unfolding Ranges.interruptsOk
-interrupts-ok i l m = and-true _ _ l m
+interrupts-ok i l m = both-true _ _ l m
 
 pub none-latched : onlyBits latchedMask 0 ≡ true
 unfolding onlyBits

@@ -4,17 +4,18 @@ use mathlib.Core.Path.{_≡_}
 use mathlib.Core.Bool.{true, false, not}
 use native.Mathlib.Omega.{arith}
 use lib.Dec.{eqb, leb, ltb}
-use borrow.Author.Tests.{ltb-true, leb-true, eqb-false, ltb-false, lt-ltb, le-leb, ne-eqb, le-ltb}
+use borrow.Author.Tests.{not-false, eqb-true, not-true, ltb-true, leb-true, eqb-false, ltb-false, lt-ltb, le-leb}
+use borrow.Author.Tests.{ne-eqb, le-ltb}
 use Rattle.model.specs.declared.Clock.{Clock}
 use Rattle.model.specs.declared.Adjustment.{Adjustment}
 use Rattle.model.specs.declared.Steering.{Steering}
 use Rattle.model.specs.declared.Generator.{Generator}
 use Rattle.model.specs.declared.Words.{Words}
 use Rattle.model.specs.declared.Engine.{Engine}
-use Rattle.model.specs.Clock.{shown}
-use Rattle.model.specs.Generator.{isRunning, isBefore, pendingTotal}
+use Rattle.model.specs.Clock.{shown, noAdjustment}
+use Rattle.model.specs.Generator.{isRunning, isBefore, pendingTotal, idleGenerator}
 use Rattle.model.specs.Ranges
-use Rattle.model.proofs.Laws.Tests.{facts, all-of, both, and-true, not-true-false}
+use Rattle.model.proofs.Laws.Tests.{facts, all-of, both, both-true}
 
 pub record ClockIn (k : Clock) : Type 0 where
   pub seconds : k .seconds < 2 ^ 48
@@ -39,7 +40,7 @@ pub amount-in : (x : ℕ) → Ranges.amountOk x ≡ true → AmountIn x
 amount-in x h = let f = both (leb (2 ^ 32) x) (ltb x (2 ^ 40)) h in omega (arith, ltb-true, leb-true)
 
 pub amount-ok : (x : ℕ) → AmountIn x → Ranges.amountOk x ≡ true
-amount-ok x h = and-true _ _ (le-leb _ _ (h .low)) (lt-ltb _ _ (h .high))
+amount-ok x h = both-true _ _ (le-leb _ _ (h .low)) (lt-ltb _ _ (h .high))
 
 pub steering-in : (s : Steering) → Ranges.steeringOk s ≡ true
     → AmountIn (s .period) × (Ranges.adjustmentOk (s .adjustment) ≡ true)
@@ -51,7 +52,7 @@ steering-in s h =
 pub steering-ok : (s : Steering) → AmountIn (s .period) → Ranges.adjustmentOk (s .adjustment) ≡ true
     → Ranges.steeringOk s ≡ true
 unfolding Ranges.steeringOk
-steering-ok s p j = and-true _ _ (amount-ok (s .period) p) j
+steering-ok s p j = both-true _ _ (amount-ok (s .period) p) j
 
 -- a running adjustment
 pub record AdjustmentIn (j : Adjustment) : Type 0 where
@@ -70,7 +71,15 @@ pub adjustment-ok : (j : Adjustment) → AdjustmentIn j → Ranges.adjustmentOk 
 unfolding Ranges.adjustmentOk
 adjustment-ok j h =
     let e = ne-eqb (j .cycles) 0 (omega arith) in
-    rw e (and-true _ _ (amount-ok (j .amount) (h .amount)) (lt-ltb _ _ (h .cycles)))
+    rw e (both-true _ _ (amount-ok (j .amount) (h .amount)) (lt-ltb _ _ (h .cycles)))
+
+-- an idle adjustment is all zeros
+pub no-adjustment-in : (j : Adjustment) → Ranges.adjustmentOk j ≡ true → eqb (j .cycles) 0 ≡ true → j ≡ noAdjustment
+unfolding Ranges.adjustmentOk
+no-adjustment-in j h e =
+    let amount = eqb-true _ _ (rw e at h) in
+    let cycles = eqb-true _ _ e in
+    λ i. record { amount = amount i; cycles = cycles i }
 
 -- a running generator at a time shown
 pub record RunningIn (g : Generator) (now : ℕ) : Type 0 where
@@ -88,13 +97,13 @@ pub record RunningIn (g : Generator) (now : ℕ) : Type 0 where
   pub ahead : now * g .denominator ≤ pendingTotal g * 256
 
 ltb-not : (a b : ℕ) → not (ltb a b) ≡ true → b ≤ a
-ltb-not a b h = ltb-false a b (not-true-false (ltb a b) h)
+ltb-not a b h = ltb-false a b (not-true (ltb a b) h)
 
 pub running-in : (g : Generator) (now : ℕ) → Ranges.generatorOk g now ≡ true → isRunning g ≡ true → RunningIn g now
 unfolding Ranges.generatorOk isBefore
 running-in g now h r =
     let f = facts (Ranges.runningTests g now) (rw r at h) in
-    let some = eqb-false (g .left) 0 (not-true-false (eqb (g .left) 0) r) in
+    let some = eqb-false (g .left) 0 (not-true (eqb (g .left) 0) r) in
     omega (arith, ltb-true, leb-true, ltb-not)
 
 not-ltb : (a b : ℕ) → b ≤ a → not (ltb a b) ≡ true
@@ -106,7 +115,31 @@ running-ok g now h =
     let r = ne-eqb (g .left) 0 (omega arith) in
     rw r (all-of (Ranges.runningTests g now) (omega (arith, lt-ltb, le-leb, not-ltb)))
 
--- an idle generator is in range at every time
+-- an idle generator is all zeros
+pub idle-in : (g : Generator) (now : ℕ) → Ranges.generatorOk g now ≡ true → isRunning g ≡ false → g ≡ idleGenerator
+unfolding Ranges.generatorOk
+idle-in g now h r =
+    let f = facts (Ranges.idleTests g) (rw r at h) in
+    let left = eqb-true (g .left) 0 (not-false (eqb (g .left) 0) r) in
+    let s = eqb-true _ _ (f .0) in
+    let n = eqb-true _ _ (f .1 .0) in
+    let m = eqb-true _ _ (f .1 .1 .0) in
+    let whole = eqb-true _ _ (f .1 .1 .1 .0) in
+    let num = eqb-true _ _ (f .1 .1 .1 .1 .0) in
+    let den = eqb-true _ _ (f .1 .1 .1 .1 .1 .0) in
+    let direction = eqb-true _ _ (f .1 .1 .1 .1 .1 .1 .0) in
+    let mark = eqb-true _ _ (f .1 .1 .1 .1 .1 .1 .1 .0) in
+    λ i. record {
+      pending = record { seconds = s i; nanoseconds = n i; remainder = m i };
+      whole = whole i;
+      numerator = num i;
+      denominator = den i;
+      left = left i;
+      direction = direction i;
+      mark = mark i;
+    }
+
+-- and in range at every time
 pub idle-ok : (g : Generator) (now later : ℕ) → isRunning g ≡ false → Ranges.generatorOk g now ≡ true
     → Ranges.generatorOk g later ≡ true
 unfolding Ranges.generatorOk

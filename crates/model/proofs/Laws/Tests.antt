@@ -2,7 +2,7 @@
 use Prim.Native.Nat.{ℕ, zero, suc, _+_, _<_, _≤_}
 use mathlib.Core.Path.{_≡_, refl, ap}
 use mathlib.Core.List.{List, [], _∷_}
-use mathlib.Core.Bool.{Bool, true, false, _&&_, _||_, not, cond}
+use mathlib.Core.Bool.{Bool, true, false, _&&_, _||_, not, cond, and-eq-true-iff}
 use lib.ListN.{length}
 use native.Mathlib.Nat.{add-zero, add-suc}
 use native.Mathlib.Decide.{ℕ-discrete}
@@ -14,20 +14,16 @@ pub split : {A : Type 0} (P : A → Type 0) (b : Bool) {x y : A} → (b ≡ true
 split P true f g = f refl
 split P false f g = g refl
 
+-- a conjunction taken apart, and put together
 pub both : (a b : Bool) → (a && b) ≡ true → (a ≡ true) × (b ≡ true)
-both true b h = (refl, h)
-both false b h = (h, cc)
+both a b = and-eq-true-iff a b .0
 
-pub and-true : (a b : Bool) → a ≡ true → b ≡ true → (a && b) ≡ true
-and-true a b p q = simp (p, q)
+pub both-true : (a b : Bool) → a ≡ true → b ≡ true → (a && b) ≡ true
+both-true a b p q = and-eq-true-iff a b .1 (p, q)
 
 pub or-left : (a b : Bool) → (a || b) ≡ true → b ≡ false → a ≡ true
 or-left true b h n = refl
 or-left false b h n = cc
-
-pub or-false : (a : Bool) → (a || false) ≡ a
-or-false true = refl
-or-false false = refl
 
 pub or-right : (a b : Bool) → b ≡ true → (a || b) ≡ true
 or-right true b h = refl
@@ -37,10 +33,6 @@ or-right false b h = h
 pub asked : (applies test : Bool) → (not applies || test) ≡ true → applies ≡ true → test ≡ true
 asked true test h a = h
 asked false test h a = cc
-
-pub not-true-false : (b : Bool) → not b ≡ true → b ≡ false
-not-true-false true h = cc
-not-true-false false h = refl
 
 -- a list of tests that hold, as facts
 abbrev pub Every : List Bool → Type 0
@@ -53,7 +45,7 @@ facts (b ∷ bs) h = let p = both b (every bs) h in (p .0, facts bs (p .1))
 
 pub all-of : (l : List Bool) → Every l → every l ≡ true
 all-of [] h = refl
-all-of (b ∷ bs) h = and-true b (every bs) (h .0) (all-of bs (h .1))
+all-of (b ∷ bs) h = both-true b (every bs) (h .0) (all-of bs (h .1))
 
 -- a test that holds below a bound, as facts
 pub below-all : (n : ℕ) (test : ℕ → Bool) → everyBelow n test ≡ true → (i : ℕ) → i < n → test i ≡ true
@@ -64,7 +56,7 @@ below-all (suc n) test h i l =
 
 pub all-below : (n : ℕ) (test : ℕ → Bool) → ((i : ℕ) → i < n → test i ≡ true) → everyBelow n test ≡ true
 all-below zero test h = refl
-all-below (suc n) test h = and-true _ _ (all-below n test (λ i l. h i (omega arith))) (h n (omega arith))
+all-below (suc n) test h = both-true _ _ (all-below n test (λ i l. h i (omega arith))) (h n (omega arith))
 
 -- a test that holds exactly below k is passed by k indices
 pub count-full : (k : ℕ) (test : ℕ → Bool) → ((i : ℕ) → i < k → test i ≡ true) → countBelow k test ≡ k

@@ -6,7 +6,7 @@ use mathlib.Core.Bool.{true, false, _||_}
 use native.Mathlib.Omega.{arith}
 use native.Mathlib.Nat.{mul-le-mul-right}
 use lib.Dec.{eqb}
-use borrow.Author.Tests.{ltb-true, leb-true, eqb-false, eq-eqb, le-leb}
+use borrow.Author.Tests.{not-true, ltb-true, leb-true, eqb-false, eq-eqb, le-leb}
 use Rattle.model.specs.declared.Engine.{Engine}
 use Rattle.model.specs.declared.Command.{Command}
 use Rattle.model.specs.declared.Outcome.{Outcome}
@@ -20,13 +20,13 @@ use Rattle.model.specs.Ranges
 use Rattle.model.specs.Fields
 use Rattle.model.specs.Checks
 use Rattle.model.specs.Execute
-use Rattle.model.proofs.Laws.Tests.{Every, split, and-true, not-true-false, or-left, or-right}
+use Rattle.model.proofs.Laws.Tests.{Every, split, both-true, or-left, or-right}
 use Rattle.model.proofs.Laws.Ranges.{Valid, valid-parts, parts-valid, clock-in, clock-ok, AmountIn}
 use Rattle.model.proofs.Laws.Ranges.{steering-in, steering-ok, adjustment-ok, running-ok}
 use Rattle.model.proofs.Laws.Ranges.{WordsIn, words-in}
 use Rattle.model.proofs.Laws.Words.{time-words-in, seconds-in-low, amount-words-in, count-low}
 use Rattle.model.proofs.Laws.Clock.{ticked-ok, shown-ticked, step-bounds, cycle-amount-in, spent-ok}
-use Rattle.model.proofs.Laws.Fifo.{captured-ok, popped-ok, oldest-in-range}
+use Rattle.model.proofs.Laws.Fifo.{captured-ok, popped-ok, oldest-rising}
 use Rattle.model.proofs.Laws.Generator.{generated-ok, idle-generator-ok}
 use Rattle.model.proofs.Laws.Bits.{only-bits-latch}
 use Rattle.model.proofs.Laws.Checks.{Accepted, by-answer, by-op, tick-fields, load-fields, command-fields}
@@ -70,7 +70,7 @@ module _ (e : Engine) (c : Command) (o : c .op ≡ 2) (k : Accepted e c) where
   w = words-in (e .words) (v .words)
 
   writes : (n : ℕ) → eqb (c .a) n ≡ true → Checks.writes c n ≡ true
-  writes n h = and-true _ _ (eq-eqb _ _ o) h
+  writes n h = both-true _ _ (eq-eqb _ _ o) h
 
   time-valid : eqb (c .a) 0 ≡ true → Valid (Execute.timeWritten e)
   time-valid h =
@@ -110,7 +110,7 @@ unfolding Execute.readWords
 read-words-in e n v some =
     split WordsIn (eqb n 0)
     (λ y. time-words-in _ _ 0 (omega arith))
-    (λ y. time-words-in _ _ _ (oldest-in-range (Record.fifo e n) (some y) (fifo-at-ok e n v) .2))
+    (λ y. time-words-in _ _ _ (oldest-rising (Record.fifo e n) (some y) (fifo-at-ok e n v)))
 
 read-valid : (e : Engine) (n : ℕ) → Valid e → (eqb n 0 ≡ false → isEmpty (Record.fifo e n) ≡ false)
     → Valid (Execute.readEngine e n)
@@ -140,8 +140,8 @@ fifo-filled e c o k n8 n0 =
     let f = command-fields c o (k .fields) in
     let low : c .b ≤ 3 = leb-true _ _ (or-left _ _ (f .1 .0) n8) in
     let z = eqb-false (c .b) 0 n0 in
-    let reads = and-true _ _ (and-true _ _ (eq-eqb _ _ o) (le-leb 1 (c .b) (omega arith))) (le-leb _ _ low) in
-    not-true-false _ (k .check7 reads)
+    let reads = both-true _ _ (both-true _ _ (eq-eqb _ _ o) (le-leb 1 (c .b) (omega arith))) (le-leb _ _ low) in
+    not-true _ (k .check7 reads)
 
 commanded-valid : (e : Engine) (c : Command) → c .op ≡ 2 → Accepted e c
     → Valid (Execute.commanded e (c .a) (c .b) .engine)

@@ -49,22 +49,37 @@ pub count-low : (w : Words) → WordsIn w → Words.countIn w < 2 ^ 24
 unfolding Words.countIn
 count-low w h = omega arith
 
--- the words that write an amount and a count, by Table 7-4: a PERIOD's have the count 0
-unfoldable pub amountWords : ℕ → ℕ → Words
-amountWords amount count = record {
-  w1 = 0;
-  w2 = count % 2 ^ 16;
-  w3 = amount % 2 ^ 8 * 2 ^ 8 + count / 2 ^ 16 % 2 ^ 8;
-  w4 = amount / 2 ^ 8 % 2 ^ 16;
-  w5 = amount / 2 ^ 24 % 2 ^ 16;
-}
+-- the words that write an amount and a count, by Table 7-4. Word 1 is ignored, whatever it is; a PERIOD write ignores
+-- word 2 also, and asks that the byte of COUNT 23:16 is 0x00
+unfoldable pub amountWords : ℕ → ℕ → ℕ → Words
+amountWords ignored amount count =
+    Words.five ignored (count % 2 ^ 16) (amount % 2 ^ 8 * 2 ^ 8 + count / 2 ^ 16 % 2 ^ 8) (amount / 2 ^ 8 % 2 ^ 16)
+    (amount / 2 ^ 24 % 2 ^ 16)
 
 pub record AmountHeld (x n : ℕ) (w : Words) : Type 0 where
   pub amount : Words.amountIn w ≡ x
+  pub whole : Words.wholeIn w ≡ x / 2 ^ 32
   pub count : Words.countIn w ≡ n
-  pub period : n ≡ 0 → Words.belowFrac w ≡ 0
+  pub byte : Words.belowFrac w ≡ n / 2 ^ 16
 
-pub amount-words-hold : (amount count : ℕ) → amount < 2 ^ 40 → count < 2 ^ 24
-    → AmountHeld amount count (amountWords amount count)
+pub amount-words-hold : (ignored amount count : ℕ) → amount < 2 ^ 40 → count < 2 ^ 24
+    → AmountHeld amount count (amountWords ignored amount count)
 unfolding Words.amountIn Words.wholeIn Words.fracIn Words.countIn Words.belowFrac amountWords
-amount-words-hold amount count ha hc = omega arith
+amount-words-hold ignored amount count ha hc = omega arith
+
+pub words-of-amount : (w : Words) → WordsIn w → amountWords (w .w1) (Words.amountIn w) (Words.countIn w) ≡ w
+unfolding Words.amountIn Words.wholeIn Words.fracIn Words.countIn amountWords
+words-of-amount w h =
+    let x = w .w5 / 2 ^ 8 * 2 ^ 32 + (w .w5 % 2 ^ 8 * 2 ^ 24 + w .w4 * 2 ^ 8 + w .w3 / 2 ^ 8) in
+    let n = w .w3 % 2 ^ 8 * 2 ^ 16 + w .w2 in
+    let joined : x ≡ (w .w5 * 2 ^ 16 + w .w4) * 2 ^ 8 + w .w3 / 2 ^ 8 = omega arith in
+    let e₂ : n % 2 ^ 16 ≡ w .w2 = omega arith in
+    let low : x % 2 ^ 8 ≡ w .w3 / 2 ^ 8 = rw joined (omega arith) in
+    let byte : n / 2 ^ 16 ≡ w .w3 % 2 ^ 8 = omega arith in
+    let high : n / 2 ^ 16 % 2 ^ 8 ≡ w .w3 % 2 ^ 8 = rw byte (omega arith) in
+    let e₃ : x % 2 ^ 8 * 2 ^ 8 + n / 2 ^ 16 % 2 ^ 8 ≡ w .w3 = rw (low, high) (omega arith) in
+    let above : x / 2 ^ 8 ≡ w .w5 * 2 ^ 16 + w .w4 = rw joined (omega arith) in
+    let e₄ : x / 2 ^ 8 % 2 ^ 16 ≡ w .w4 = rw above (omega arith) in
+    let top : x / 2 ^ 24 ≡ w .w5 = rw joined (omega arith) in
+    let e₅ : x / 2 ^ 24 % 2 ^ 16 ≡ w .w5 = rw top (omega arith) in
+    λ i. record { w1 = w .w1; w2 = e₂ i; w3 = e₃ i; w4 = e₄ i; w5 = e₅ i }
