@@ -13,6 +13,7 @@ pub mod Interrupts
 -- the whole: the record, its ranges (number 4), the field lists (number 6), the table of checks, the ops, a run
 pub mod Record
 pub mod Ranges
+pub mod Bounds
 pub mod Fields
 pub mod Checks
 pub mod Execute

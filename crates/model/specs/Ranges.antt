@@ -56,9 +56,9 @@ placeOk f i = cond (ltb i (f .count)) (timestampOk (entry f i)) (timestampZero (
 unfoldable pub fifoOk : Fifo → Bool
 fifoOk f = leb (f .count) 8 && everyBelow 8 (placeOk f)
 
--- op 3's limits, the pending instant, and that it is not before the time shown
-abbrev pub runningTests : Generator → ℕ → List Bool
-runningTests g now =
+-- op 3's limits, and the pending instant
+abbrev pub runningTests : Generator → List Bool
+runningTests g =
     secondsOk (g .pending .seconds)
     ∷ nanosecondsOk (g .pending .nanoseconds)
     ∷ ltb (g .pending .remainder) (g .denominator)
@@ -69,7 +69,6 @@ runningTests g now =
     ∷ ltb (g .left) (2 ^ 32)
     ∷ leb (g .direction) 1
     ∷ leb (g .mark) 1
-    ∷ not (isBefore g now)
     ∷ []
 
 abbrev pub idleTests : Generator → List Bool
@@ -84,8 +83,9 @@ idleTests g =
     ∷ eqb (g .mark) 0
     ∷ []
 
+-- idle and zero, or running with a pending instant that is not before the time shown
 unfoldable pub generatorOk : Generator → ℕ → Bool
-generatorOk g now = cond (isRunning g) (every (runningTests g now)) (every (idleTests g))
+generatorOk g now = cond (isRunning g) (every (runningTests g) && not (isBefore g now)) (every (idleTests g))
 
 unfoldable pub interruptsOk : Interrupts → Bool
 interruptsOk i = onlyBits latchedMask (i .latched) && onlyBits enabledMask (i .enabled)

@@ -19,7 +19,8 @@ use Rattle.model.specs.Fractions.{Fraction, over, part}
 use Rattle.model.specs.Ledger.{Ledger, ordered}
 use Rattle.model.specs.Returned.{Edge, edgeIn}
 use Rattle.model.specs.Instants.{ideal, AlternateFrom, Lag, LagsFrom, eighthStart}
-use Rattle.model.proofs.Laws.Ranges.{RunningIn, running-in}
+use Rattle.model.specs.Bounds.{RunningIn}
+use Rattle.model.proofs.Laws.Ranges.{running-in}
 use Rattle.model.proofs.Laws.Fractions.{Is, is-over, is-finer, is-plus, is-part, is-below}
 use Rattle.model.proofs.Laws.Lag.{eighth-few, not-early, not-late}
 use Rattle.model.proofs.Laws.Generator.{next-total}

@@ -14,7 +14,8 @@ use Rattle.model.specs.Clock.{spent}
 use Rattle.model.specs.Clock.{noAdjustment}
 use Rattle.model.specs.Ranges.{clockOk, steeringOk, adjustmentOk}
 use Rattle.model.proofs.Laws.Tests.{split}
-use Rattle.model.proofs.Laws.Ranges.{ClockIn, clock-ok, AmountIn, steering-in, adjustment-in, adjustment-ok}
+use Rattle.model.specs.Bounds.{ClockIn, AmountIn}
+use Rattle.model.proofs.Laws.Ranges.{clock-ok, steering-in, adjustment-in, adjustment-ok}
 
 -- the exact time of a clock, remainder included, in 2^-32 ns
 abbrev pub exact : Clock → ℕ

@@ -13,7 +13,8 @@ use Rattle.model.specs.declared.Instant.{Instant}
 use Rattle.model.specs.Generator
 use Rattle.model.specs.Ranges.{generatorOk}
 use Rattle.model.proofs.Laws.Tests.{split, both}
-use Rattle.model.proofs.Laws.Ranges.{RunningIn, running-in, running-ok, idle-ok}
+use Rattle.model.specs.Bounds.{RunningIn}
+use Rattle.model.proofs.Laws.Ranges.{running-in, running-ok, idle-ok}
 
 -- an instant read back as a total
 abbrev pub total : Instant → ℕ → ℕ

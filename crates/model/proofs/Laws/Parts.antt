@@ -16,7 +16,8 @@ use Rattle.model.specs.Record
 use Rattle.model.specs.Ranges
 use Rattle.model.proofs.Laws.Tests.{split, both, both-true}
 use Rattle.model.proofs.Laws.Ranges.{Valid}
-use Rattle.model.proofs.Laws.Ranges.{WordsIn, words-ok}
+use Rattle.model.specs.Bounds.{WordsIn}
+use Rattle.model.proofs.Laws.Ranges.{words-ok}
 
 -- interrupts
 pub interrupts-in : (i : Interrupts) → Ranges.interruptsOk i ≡ true

@@ -1,5 +1,5 @@
 -- The ranges of check 4 as facts, part by part, both ways: each test of a list is one comparison.
-use Prim.Native.Nat.{ℕ, _*_, _<_, _≤_, _^_}
+use Prim.Native.Nat.{ℕ, _≤_, _^_}
 use mathlib.Core.Path.{_≡_}
 use mathlib.Core.Bool.{true, false, not}
 use native.Mathlib.Omega.{arith}
@@ -13,15 +13,11 @@ use Rattle.model.specs.declared.Generator.{Generator}
 use Rattle.model.specs.declared.Words.{Words}
 use Rattle.model.specs.declared.Engine.{Engine}
 use Rattle.model.specs.Clock.{shown, noAdjustment}
-use Rattle.model.specs.Generator.{isRunning, isBefore, pendingTotal, idleGenerator}
+use Rattle.model.specs.Generator.{isRunning, isBefore, idleGenerator}
+use Rattle.model.specs.Tests.{every}
 use Rattle.model.specs.Ranges
+use Rattle.model.specs.Bounds.{ClockIn, AmountIn, AdjustmentIn, RunningIn, WordsIn}
 use Rattle.model.proofs.Laws.Tests.{facts, all-of, both, both-true}
-
-pub record ClockIn (k : Clock) : Type 0 where
-  pub seconds : k .seconds < 2 ^ 48
-  pub nanoseconds : k .nanoseconds < 1000000000
-  pub fraction : k .fraction < 256
-  pub remainder : k .remainder < 2 ^ 24
 
 pub clock-in : (k : Clock) → Ranges.clockOk k ≡ true → ClockIn k
 unfolding Ranges.clockOk
@@ -30,11 +26,6 @@ clock-in k h = let f = facts (Ranges.clockTests k) h in omega (arith, ltb-true)
 pub clock-ok : (k : Clock) → ClockIn k → Ranges.clockOk k ≡ true
 unfolding Ranges.clockOk
 clock-ok k h = all-of (Ranges.clockTests k) (omega (arith, lt-ltb))
-
--- an amount of a cycle: NS not 0, and 40 bits
-pub record AmountIn (x : ℕ) : Type 0 where
-  pub low : 2 ^ 32 ≤ x
-  pub high : x < 2 ^ 40
 
 pub amount-in : (x : ℕ) → Ranges.amountOk x ≡ true → AmountIn x
 amount-in x h = let f = both (leb (2 ^ 32) x) (ltb x (2 ^ 40)) h in omega (arith, ltb-true, leb-true)
@@ -53,12 +44,6 @@ pub steering-ok : (s : Steering) → AmountIn (s .period) → Ranges.adjustmentO
     → Ranges.steeringOk s ≡ true
 unfolding Ranges.steeringOk
 steering-ok s p j = both-true _ _ (amount-ok (s .period) p) j
-
--- a running adjustment
-pub record AdjustmentIn (j : Adjustment) : Type 0 where
-  pub amount : AmountIn (j .amount)
-  pub some : 0 < j .cycles
-  pub cycles : j .cycles < 2 ^ 24
 
 pub adjustment-in : (j : Adjustment) → Ranges.adjustmentOk j ≡ true → eqb (j .cycles) 0 ≡ false → AdjustmentIn j
 unfolding Ranges.adjustmentOk
@@ -81,28 +66,14 @@ no-adjustment-in j h e =
     let cycles = eqb-true _ _ e in
     λ i. record { amount = amount i; cycles = cycles i }
 
--- a running generator at a time shown
-pub record RunningIn (g : Generator) (now : ℕ) : Type 0 where
-  pub seconds : g .pending .seconds < 2 ^ 48
-  pub nanoseconds : g .pending .nanoseconds < 1000000000
-  pub remainder : g .pending .remainder < g .denominator
-  pub wide : 256 ≤ g .whole
-  pub whole : g .whole ≤ 999999999
-  pub numerator : g .numerator < g .denominator
-  pub denominator : g .denominator < 2 ^ 32
-  pub some : 0 < g .left
-  pub left : g .left < 2 ^ 32
-  pub direction : g .direction ≤ 1
-  pub mark : g .mark ≤ 1
-  pub ahead : now * g .denominator ≤ pendingTotal g * 256
-
 ltb-not : (a b : ℕ) → not (ltb a b) ≡ true → b ≤ a
 ltb-not a b h = ltb-false a b (not-true (ltb a b) h)
 
 pub running-in : (g : Generator) (now : ℕ) → Ranges.generatorOk g now ≡ true → isRunning g ≡ true → RunningIn g now
 unfolding Ranges.generatorOk isBefore
 running-in g now h r =
-    let f = facts (Ranges.runningTests g now) (rw r at h) in
+    let t = both (every (Ranges.runningTests g)) (not (isBefore g now)) (rw r at h) in
+    let f = facts (Ranges.runningTests g) (t .0) in
     let some = eqb-false (g .left) 0 (not-true (eqb (g .left) 0) r) in
     omega (arith, ltb-true, leb-true, ltb-not)
 
@@ -113,7 +84,8 @@ pub running-ok : (g : Generator) (now : ℕ) → RunningIn g now → Ranges.gene
 unfolding Ranges.generatorOk isBefore
 running-ok g now h =
     let r = ne-eqb (g .left) 0 (omega arith) in
-    rw r (all-of (Ranges.runningTests g now) (omega (arith, lt-ltb, le-leb, not-ltb)))
+    let t = all-of (Ranges.runningTests g) (omega (arith, lt-ltb, le-leb)) in
+    rw r (both-true (every (Ranges.runningTests g)) (not (isBefore g now)) t (omega (arith, not-ltb)))
 
 -- an idle generator is all zeros
 pub idle-in : (g : Generator) (now : ℕ) → Ranges.generatorOk g now ≡ true → isRunning g ≡ false → g ≡ idleGenerator
@@ -144,13 +116,6 @@ pub idle-ok : (g : Generator) (now later : ℕ) → isRunning g ≡ false → Ra
     → Ranges.generatorOk g later ≡ true
 unfolding Ranges.generatorOk
 idle-ok g now later r h = rw r (rw r at h)
-
-pub record WordsIn (w : Words) : Type 0 where
-  pub w1 : w .w1 < 2 ^ 16
-  pub w2 : w .w2 < 2 ^ 16
-  pub w3 : w .w3 < 2 ^ 16
-  pub w4 : w .w4 < 2 ^ 16
-  pub w5 : w .w5 < 2 ^ 16
 
 pub words-in : (w : Words) → Ranges.wordsOk w ≡ true → WordsIn w
 unfolding Ranges.wordsOk

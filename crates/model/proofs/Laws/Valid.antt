@@ -21,9 +21,11 @@ use Rattle.model.specs.Fields
 use Rattle.model.specs.Checks
 use Rattle.model.specs.Execute
 use Rattle.model.proofs.Laws.Tests.{Every, split, both-true, or-left, or-right}
-use Rattle.model.proofs.Laws.Ranges.{Valid, valid-parts, parts-valid, clock-in, clock-ok, AmountIn}
+use Rattle.model.specs.Bounds.{AmountIn}
+use Rattle.model.proofs.Laws.Ranges.{Valid, valid-parts, parts-valid, clock-in, clock-ok}
 use Rattle.model.proofs.Laws.Ranges.{steering-in, steering-ok, adjustment-ok, running-ok}
-use Rattle.model.proofs.Laws.Ranges.{WordsIn, words-in}
+use Rattle.model.specs.Bounds.{WordsIn}
+use Rattle.model.proofs.Laws.Ranges.{words-in}
 use Rattle.model.proofs.Laws.Words.{time-words-in, seconds-in-low, amount-words-in, count-low}
 use Rattle.model.proofs.Laws.Clock.{ticked-ok, shown-ticked, step-bounds, cycle-amount-in, spent-ok}
 use Rattle.model.proofs.Laws.Fifo.{captured-ok, popped-ok, oldest-rising}

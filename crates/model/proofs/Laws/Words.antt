@@ -5,7 +5,7 @@ use mathlib.Core.Path.{_≡_}
 use native.Mathlib.Omega.{arith}
 use Rattle.model.specs.declared.Words.{Words}
 use Rattle.model.specs.Words
-use Rattle.model.proofs.Laws.Ranges.{WordsIn, AmountIn}
+use Rattle.model.specs.Bounds.{WordsIn, AmountIn}
 
 -- reads: the words of a time or timestamp hold its seconds, nanoseconds and edge
 pub record TimeIn (s n b : ℕ) (w : Words) : Type 0 where
@@ -49,8 +49,8 @@ pub count-low : (w : Words) → WordsIn w → Words.countIn w < 2 ^ 24
 unfolding Words.countIn
 count-low w h = omega arith
 
--- the words that write an amount and a count, by Table 7-4. Word 1 is ignored, whatever it is; a PERIOD write ignores
--- word 2 also, and asks that the byte of COUNT 23:16 is 0x00
+-- the words that write an amount and a count, by Table 7-4. Word 1 is ignored, whatever it is; a PERIOD write
+-- ignores word 2 also, and asks that the byte of COUNT 23:16 is 0x00
 unfoldable pub amountWords : ℕ → ℕ → ℕ → Words
 amountWords ignored amount count =
     Words.five ignored (count % 2 ^ 16) (amount % 2 ^ 8 * 2 ^ 8 + count / 2 ^ 16 % 2 ^ 8) (amount / 2 ^ 8 % 2 ^ 16)
