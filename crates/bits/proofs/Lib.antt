@@ -1,0 +1,2 @@
+-- Why shifts and masks are divisions, remainders and sums.
+pub mod Masks

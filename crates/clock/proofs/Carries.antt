@@ -1,0 +1,96 @@
+-- Carries against totals: with each place below its limit, adding to the lowest place and carrying is splitting the
+-- total, and comparing place by place is comparing totals.
+use mathlib.Core.Path.{_≡_, sym, _∙_}
+use mathlib.Core.Bool.{true, false, _||_, _&&_}
+use Prim.Native.Nat.{ℕ, _+_, _*_, _/_, _%_, _<_, _≤_}
+use native.Mathlib.Decide.{decLt, ℕ-discrete}
+use native.Mathlib.Omega.{arith}
+use lib.Dec.{ltb, leb, eqb}
+use borrow.Author.Tests.{lt-ltb, le-ltb, le-leb, lt-leb, eq-eqb, ne-eqb}
+use Rattle.model.specs.declared.Clock.{Clock}
+use Rattle.model.specs.Clock.{shown, endOfTime, clockAt}
+use Rattle.model.specs.Bounds.{ClockIn}
+use Rattle.tests.proofs.Places.{by-place, same-test}
+
+module _ (s n f d : ℕ) (n-low : n < 1000000000) (f-low : f < 256) where
+  fraction : (f + d) % 256 ≡ ((s * 1000000000 + n) * 256 + f + d) % 256
+  fraction = omega arith
+
+  nanoseconds : (n + (f + d) / 256) % 1000000000 ≡ ((s * 1000000000 + n) * 256 + f + d) / 256 % 1000000000
+  nanoseconds = omega arith
+
+  seconds : s + (n + (f + d) / 256) / 1000000000 ≡ ((s * 1000000000 + n) * 256 + f + d) / 256 / 1000000000
+  seconds = omega arith
+
+-- a clock that gains d, place by place
+pub carried : (k : Clock) (d r : ℕ) → ClockIn k
+    → _≡_ {A = Clock}
+    (record {
+      seconds = k .seconds + (k .nanoseconds + (k .fraction + d) / 256) / 1000000000;
+      nanoseconds = (k .nanoseconds + (k .fraction + d) / 256) % 1000000000;
+      fraction = (k .fraction + d) % 256;
+      remainder = r;
+    })
+    (clockAt (shown k + d) r)
+carried k d r i =
+    let p = k .seconds in
+    let q = k .nanoseconds in
+    let f = k .fraction in
+    simp (
+      fraction p q f d (i .nanoseconds) (i .fraction),
+      nanoseconds p q f d (i .nanoseconds) (i .fraction),
+      seconds p q f d (i .nanoseconds) (i .fraction),
+    )
+
+-- a tick of d ends within the last second
+pub in-time : (k : Clock) (d : ℕ) → ClockIn k → d ≤ 65536
+    → (ltb (k .seconds) 281474976710655 || ltb (k .nanoseconds * 256 + k .fraction + d) 256000000000)
+    ≡ ltb (shown k + d) endOfTime
+in-time k d i l = go (decLt (k .seconds) 281474976710655)
+  where
+    go : Dec (k .seconds < 281474976710655)
+        → (ltb (k .seconds) 281474976710655 || ltb (k .nanoseconds * 256 + k .fraction + d) 256000000000)
+        ≡ ltb (shown k + d) endOfTime
+    go (yes h) = rw (lt-ltb (k .seconds) 281474976710655 h, lt-ltb (shown k + d) endOfTime (omega arith))
+    go (no h) =
+        let e : 281474976710655 ≤ k .seconds = omega arith in
+        let m = k .nanoseconds * 256 + k .fraction + d in
+        rw (le-ltb (k .seconds) 281474976710655 e)
+        (same-test m 256000000000 (shown k + d) endOfTime (λ x. omega arith) (λ x. omega arith))
+
+-- a start of whole nanoseconds against the time shown, its whole seconds carried
+module _ (k : Clock) (s n : ℕ) (i : ClockIn k) where
+  start : ℕ
+  start = (s * 1000000000 + n) * 256
+
+  earlier : shown k ≤ start → leb (shown k) start ≡ true
+  earlier = le-leb (shown k) start
+
+  later : start < shown k → leb (shown k) start ≡ false
+  later = lt-leb (shown k) start
+
+  level : k .seconds ≡ s + n / 1000000000 → k .nanoseconds ≡ n % 1000000000 → Dec (k .fraction ≡ 0)
+      → leb (shown k) start ≡ eqb (k .fraction) 0
+  unfolding start
+  level e d (yes z) = earlier (omega arith) ∙ sym (eq-eqb (k .fraction) 0 z)
+  level e d (no z) = later (omega arith) ∙ sym (ne-eqb (k .fraction) 0 z)
+
+  pub past-at-once : k .seconds < s → leb (shown k) ((s * 1000000000 + n) * 256) ≡ true
+  unfolding start
+  past-at-once h = earlier (omega arith)
+
+  pub not-past :
+      (ltb (k .seconds) (s + n / 1000000000)
+      || (eqb (k .seconds) (s + n / 1000000000)
+      && (ltb (k .nanoseconds) (n % 1000000000)
+      || (eqb (k .nanoseconds) (n % 1000000000) && eqb (k .fraction) 0))))
+      ≡ leb (shown k) ((s * 1000000000 + n) * 256)
+  unfolding start
+  not-past =
+      by-place (k .seconds) (s + n / 1000000000) _ (leb (shown k) start)
+      (λ h. earlier (omega arith))
+      (λ h. later (omega arith))
+      (λ e. sym (by-place (k .nanoseconds) (n % 1000000000) (eqb (k .fraction) 0) (leb (shown k) start)
+      (λ h. earlier (omega arith))
+      (λ h. later (omega arith))
+      (λ d. level e d (ℕ-discrete (k .fraction) 0))))

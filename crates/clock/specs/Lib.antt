@@ -1,0 +1,2 @@
+-- What a tick of the clock asks.
+pub mod Cycle

@@ -1,0 +1,122 @@
+// The clock and its steering: the amount of a cycle, the step, the tick with its carries, the adjustment's cycles,
+// and the two tests on the time shown. Each function returns a definition of the model's specs/Clock.antt, which
+// adds on totals; the carries here are shown to be the same. Document 01, "The clock".
+ghost use mathlib.Core.Path.{_≡_};
+ghost use mathlib.Core.Bool.{true};
+ghost use Prim.Native.Nat.{_+_, _*_, _<_, _≤_, _^_};
+ghost use lib.Dec.{leb, ltb};
+ghost use Rattle.model.specs.Clock.{shown, endOfTime, cycleAmount, stepBy, ticked, clockSet};
+ghost use Rattle.model.specs.Clock.{noAdjustment, spent, lastCycle};
+ghost use Rattle.model.specs.Bounds.{ClockIn};
+ghost use Rattle.clock.specs.Cycle.{Cycle};
+use model::Adjustment;
+use model::Clock;
+use model::Steering;
+use tests::both;
+use tests::either;
+use tests::pick;
+
+// PER_ADJ while an adjustment has cycles left, else PERIOD.
+pub fn cycle_amount(s: Steering) -> u64
+    ensures { λ r. ⌜ r ≡ cycleAmount s ⌝ }
+{
+    pick(s.adjustment.cycles == 0, s.period, s.adjustment.amount)
+}
+
+// What a tick adds to the time shown, in 1/256 ns.
+pub fn step_by(k: Clock, amount: u64) -> u64
+    requires { ⌜ (k .remainder < 2 ^ 24) × (amount < 2 ^ 40) ⌝ }
+    ensures { λ r. ⌜ r ≡ stepBy k amount ⌝ }
+{
+    (k.remainder + amount) / 16777216
+}
+
+// One reference cycle: the time shown gains the step, and the remainder keeps what is below it.
+pub fn tick_clock(k: Clock, amount: u64, step: u64) -> Clock
+    requires { ⌜ Cycle k amount step ⌝ }
+    ensures { λ r. ⌜ r ≡ ticked k amount ⌝ }
+{
+    let fraction = k.fraction + step;
+    let nanoseconds = k.nanoseconds + fraction / 256;
+    Clock {
+        seconds: k.seconds + nanoseconds / 1000000000,
+        nanoseconds: nanoseconds % 1000000000,
+        fraction: fraction % 256,
+        remainder: (k.remainder + amount) % 16777216,
+    }
+}
+
+// The clock that a TIME write sets.
+pub fn set_clock(seconds: u64, nanoseconds: u64) -> Clock
+    ensures { λ r. ⌜ r ≡ clockSet seconds nanoseconds ⌝ }
+{
+    Clock {
+        seconds: seconds,
+        nanoseconds: nanoseconds,
+        fraction: 0,
+        remainder: 0,
+    }
+}
+
+pub fn no_adjustment() -> Adjustment
+    ensures { λ r. ⌜ r ≡ noAdjustment ⌝ }
+{
+    Adjustment {
+        amount: 0,
+        cycles: 0,
+    }
+}
+
+// The adjustment after a tick.
+pub fn spend(j: Adjustment) -> Adjustment
+    ensures { λ r. ⌜ r ≡ spent j ⌝ }
+{
+    if j.cycles <= 1 {
+        return no_adjustment();
+    }
+    Adjustment {
+        amount: j.amount,
+        cycles: j.cycles - 1,
+    }
+}
+
+// The tick that sets TAC.
+pub fn is_last_cycle(j: Adjustment) -> bool
+    ensures { λ r. ⌜ r ≡ lastCycle j ⌝ }
+{
+    j.cycles == 1
+}
+
+// A tick of this step ends within the last second: in an earlier second always, in the last one by what it shows.
+pub fn ends_in_time(k: Clock, step: u64) -> bool
+    requires { ⌜ (ClockIn k) × (step ≤ 65536) ⌝ }
+    ensures { λ r. ⌜ r ≡ ltb (shown k + step) endOfTime ⌝ }
+{
+    either(
+        k.seconds < 281474976710655,
+        k.nanoseconds * 256 + k.fraction + step < 256000000000,
+    )
+}
+
+// A start is not before the time shown: seconds first, then nanoseconds, where the clock shows no fraction. Whole
+// seconds in the nanoseconds are carried, so that it is right for every two numbers.
+pub fn is_not_past(k: Clock, seconds: u64, nanoseconds: u64) -> bool
+    requires { ⌜ ClockIn k ⌝ }
+    ensures { λ r. ⌜ r ≡ leb (shown k) ((seconds * 1000000000 + nanoseconds) * 256) ⌝ }
+{
+    if k.seconds < seconds {
+        return true;
+    }
+    let second = seconds + nanoseconds / 1000000000;
+    let rest = nanoseconds % 1000000000;
+    either(
+        k.seconds < second,
+        both(
+            k.seconds == second,
+            either(
+                k.nanoseconds < rest,
+                both(k.nanoseconds == rest, k.fraction == 0),
+            ),
+        ),
+    )
+}

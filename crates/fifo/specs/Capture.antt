@@ -1,0 +1,46 @@
+-- An input edge in a tick: what is asked of the FIFO and the clock, and what the tick makes of the FIFO. Document
+-- 01, "Stamps and generators".
+use mathlib.Core.Path.{_≡_}
+use Prim.Native.Nat.{ℕ, _+_, _*_, _<_, _≤_}
+use lib.ListN.{set}
+use Rattle.model.specs.declared.Clock.{Clock}
+use Rattle.model.specs.declared.Fifo.{Fifo}
+use Rattle.model.specs.declared.Timestamp.{Timestamp}
+use Rattle.model.specs.Edges.{codeEighth}
+use Rattle.model.specs.Fifo.{captured, capturesFirst, overflows}
+use Rattle.model.specs.Bounds.{ClockIn}
+use Rattle.fifo.specs.declared.Captured.{Captured}
+
+-- the eighth of a code, one of eight
+pub record EighthOf (code r : ℕ) : Type 0 where
+  pub is : r ≡ codeEighth code
+  pub low : r ≤ 7
+
+-- p × S, below eight steps
+pub record OffsetOf (step code r : ℕ) : Type 0 where
+  pub is : r ≡ codeEighth code * step
+  pub low : r ≤ 458752
+
+-- an edge's code, in a tick of a step from the clock k
+pub record Stamping (k : Clock) (step code : ℕ) : Type 0 where
+  pub clock : ClockIn k
+  pub low : step ≤ 65536
+  pub some : 0 < code
+  pub few : code ≤ 16
+
+-- an input's code, in a tick of a step from the clock k
+pub record Capturing (k : Clock) (step code : ℕ) : Type 0 where
+  pub clock : ClockIn k
+  pub low : step ≤ 65536
+  pub few : code ≤ 16
+
+abbrev pub pushed : Fifo → Timestamp → Fifo
+pushed f t = record { entries = set (f .entries) (f .count) t; count = f .count + 1 }
+
+-- what an input's code makes of a FIFO in a tick of step s from the time shown a
+unfoldable pub captureOf : Fifo → ℕ → ℕ → ℕ → Captured
+captureOf f a s code = record {
+  fifo = captured f a s code;
+  first = capturesFirst f code;
+  overflow = overflows f code;
+}

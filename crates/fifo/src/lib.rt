@@ -1,0 +1,143 @@
+// Timestamp FIFOs: an input edge is stamped and stored behind the others, and a read takes the oldest out and shifts
+// the rest down. Entries are an array by value of timestamps. Each function returns a definition of the model's
+// specs/Fifo.antt. Document 01, "Stamps and generators".
+ghost use mathlib.Core.Path.{_≡_};
+ghost use Prim.Native.Nat.{_+_, _<_, _≤_};
+ghost use Rattle.model.specs.Clock.{shown};
+ghost use Rattle.model.specs.Fifo.{emptyFifo, noTimestamp, isEmpty, entry, timestampOf, popped};
+ghost use Rattle.fifo.specs.Capture.{EighthOf, OffsetOf, Stamping, Capturing, pushed, captureOf};
+use model::Clock;
+use model::Fifo;
+use model::Timestamp;
+use tests::pick;
+
+// What a tick makes of a FIFO: the FIFO after it, and whether NE and OF are set.
+pub struct Captured {
+    pub fifo: Fifo,
+    pub first: bool,
+    pub overflow: bool,
+}
+
+fn no_timestamp() -> Timestamp
+    ensures { λ r. ⌜ r ≡ noTimestamp ⌝ }
+{
+    Timestamp {
+        seconds: 0,
+        nanoseconds: 0,
+        rising: 0,
+    }
+}
+
+pub fn empty_fifo() -> Fifo
+    ensures { λ r. ⌜ r ≡ emptyFifo ⌝ }
+{
+    Fifo {
+        entries: [no_timestamp(); 8],
+        count: 0,
+    }
+}
+
+pub fn is_empty(f: Fifo) -> bool
+    ensures { λ r. ⌜ r ≡ isEmpty f ⌝ }
+{
+    f.count == 0
+}
+
+pub fn oldest(f: Fifo) -> Timestamp
+    ensures { λ r. ⌜ r ≡ entry f 0 ⌝ }
+{
+    f.entries[0]
+}
+
+// The eighth of an edge, by its code.
+fn eighth(code: u64) -> u64
+    requires { ⌜ (0 < code) × (code ≤ 16) ⌝ }
+    ensures { λ r. ⌜ EighthOf code r ⌝ }
+{
+    if code <= 8 { code - 1 } else { code - 9 }
+}
+
+// p × S, in eighths of 1/256 ns.
+fn offset(step: u64, code: u64) -> u64
+    requires { ⌜ (step ≤ 65536) × (0 < code) × (code ≤ 16) ⌝ }
+    ensures { λ r. ⌜ OffsetOf step code r ⌝ }
+{
+    eighth(code) * step
+}
+
+// A + p × S / 8 with its carries, the fraction of a nanosecond dropped.
+fn timestamp(k: Clock, step: u64, code: u64) -> Timestamp
+    requires { ⌜ Stamping k step code ⌝ }
+    ensures { λ r. ⌜ r ≡ timestampOf (shown k) step code ⌝ }
+{
+    let nanoseconds = k.nanoseconds + (8 * k.fraction + offset(step, code)) / 2048;
+    Timestamp {
+        seconds: k.seconds + nanoseconds / 1000000000,
+        nanoseconds: nanoseconds % 1000000000,
+        rising: pick(code <= 8, 0, 1),
+    }
+}
+
+// The timestamp in the first unused place.
+fn push(mut f: Fifo, t: Timestamp) -> Fifo
+    requires { ⌜ f .count < 8 ⌝ }
+    ensures { λ r. ⌜ r ≡ pushed f t ⌝ }
+{
+    let at = f.count as usize;
+    f.entries[at] = t;
+    f.count = f.count + 1;
+    f
+}
+
+// An input's code in a tick of a step from the clock k.
+pub fn capture(f: Fifo, k: Clock, step: u64, code: u64) -> Captured
+    requires { ⌜ Capturing k step code ⌝ }
+    ensures { λ r. ⌜ r ≡ captureOf f (shown k) step code ⌝ }
+{
+    if code == 0 {
+        return Captured {
+            fifo: f,
+            first: false,
+            overflow: false,
+        };
+    }
+    if 8 <= f.count {
+        return Captured {
+            fifo: f,
+            first: false,
+            overflow: true,
+        };
+    }
+    Captured {
+        fifo: push(f, timestamp(k, step, code)),
+        first: f.count == 0,
+        overflow: false,
+    }
+}
+
+// The oldest is taken out: each other moves one place down, and the last place is free.
+pub fn pop(f: Fifo) -> Fifo
+    requires { ⌜ 0 < f .count ⌝ }
+    ensures { λ r. ⌜ r ≡ popped f ⌝ }
+{
+    let second = f.entries[1];
+    let third = f.entries[2];
+    let fourth = f.entries[3];
+    let fifth = f.entries[4];
+    let sixth = f.entries[5];
+    let seventh = f.entries[6];
+    let eighth = f.entries[7];
+    Fifo {
+        entries: [
+            second,
+            third,
+            fourth,
+            fifth,
+            sixth,
+            seventh,
+            eighth,
+            no_timestamp(),
+        ],
+        count: f.count - 1,
+    }
+}

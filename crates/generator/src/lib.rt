@@ -1,0 +1,152 @@
+// An event generator in a tick: whether its pending instant is due, the eighth that it falls in, and the generator
+// after the edge. Instants keep their remainder over the denominator, so nothing is rounded. Each function returns a
+// definition of the model's specs/Generator.antt. Document 01, "Stamps and generators".
+ghost use mathlib.Core.Path.{_≡_};
+ghost use Prim.Native.Nat.{_<_};
+ghost use Rattle.model.specs.Clock.{shown};
+ghost use Rattle.model.specs.Edges.{edgeCode};
+ghost use Rattle.model.specs.Generator.{idleGenerator, isBefore, eighthOf, nextInstant, following};
+ghost use Rattle.generator.specs.Advance.{Comparable, Running, Due, Ticking, stayOf, advanceOf};
+use model::Clock;
+use model::Generator;
+use model::Instant;
+use tests::both;
+use tests::either;
+
+// What a tick makes of a generator: the code of its edge or 0, the generator after it, and whether EC and SC are
+// set.
+pub struct Advanced {
+    pub code: u64,
+    pub generator: Generator,
+    pub event: bool,
+    pub sequence: bool,
+}
+
+pub fn idle_generator() -> Generator
+    ensures { λ r. ⌜ r ≡ idleGenerator ⌝ }
+{
+    Generator {
+        pending: Instant {
+            seconds: 0,
+            nanoseconds: 0,
+            remainder: 0,
+        },
+        whole: 0,
+        numerator: 0,
+        denominator: 0,
+        left: 0,
+        direction: 0,
+        mark: 0,
+    }
+}
+
+// The pending instant is below the time shown: seconds first, then nanoseconds, then remainder / D against fraction
+// / 256, multiplied out.
+pub fn is_before(g: Generator, k: Clock) -> bool
+    requires { ⌜ Comparable g k ⌝ }
+    ensures { λ r. ⌜ r ≡ isBefore g (shown k) ⌝ }
+{
+    either(
+        g.pending.seconds < k.seconds,
+        both(
+            g.pending.seconds == k.seconds,
+            either(
+                g.pending.nanoseconds < k.nanoseconds,
+                both(
+                    g.pending.nanoseconds == k.nanoseconds,
+                    g.pending.remainder * 256 < k.fraction * g.denominator,
+                ),
+            ),
+        ),
+    )
+}
+
+// floor(8 × (E - A) / S), with E - A in 1/(256 D) ns: it is below the step, so it is small.
+fn eighth(g: Generator, k: Clock, step: u64) -> u64
+    requires { ⌜ Due g k step ⌝ }
+    ensures { λ r. ⌜ r ≡ eighthOf g (shown k) step ⌝ }
+{
+    let whole = (g.pending.seconds - k.seconds) * 1000000000 + g.pending.nanoseconds
+        - k.nanoseconds;
+    let ahead = (whole * 256 * g.denominator + g.pending.remainder * 256)
+        - k.fraction * g.denominator;
+    8 * ahead / (step * g.denominator)
+}
+
+// The code of an edge, by its direction.
+fn edge_code(direction: u64, eighth: u64) -> u64
+    requires { ⌜ eighth < 8 ⌝ }
+    ensures { λ r. ⌜ r ≡ edgeCode direction eighth ⌝ }
+{
+    if direction == 0 {
+        eighth + 9
+    } else {
+        eighth + 1
+    }
+}
+
+// The ideal instant after the pending one: the interval's parts are added, each with its carry.
+fn next_instant(g: Generator) -> Instant
+    requires { ⌜ Running g ⌝ }
+    ensures { λ r. ⌜ r ≡ nextInstant g ⌝ }
+{
+    let part = g.pending.remainder + g.numerator;
+    let nanoseconds = g.pending.nanoseconds + g.whole + part / g.denominator;
+    Instant {
+        seconds: g.pending.seconds + nanoseconds / 1000000000,
+        nanoseconds: nanoseconds % 1000000000,
+        remainder: part % g.denominator,
+    }
+}
+
+// The generator after an edge: idle where it was the last, or where the next instant is past the last second.
+fn follow(g: Generator) -> Generator
+    requires { ⌜ Running g ⌝ }
+    ensures { λ r. ⌜ r ≡ following g ⌝ }
+{
+    let next = next_instant(g);
+    if either(g.left == 1, 281474976710656 <= next.seconds) {
+        return idle_generator();
+    }
+    Generator {
+        pending: next,
+        whole: g.whole,
+        numerator: g.numerator,
+        denominator: g.denominator,
+        left: g.left - 1,
+        direction: 1 - g.direction,
+        mark: g.mark,
+    }
+}
+
+// No edge in this tick.
+fn stay(g: Generator) -> Advanced
+    ensures { λ r. ⌜ r ≡ stayOf g ⌝ }
+{
+    Advanced {
+        code: 0,
+        generator: g,
+        event: false,
+        sequence: false,
+    }
+}
+
+// A generator in the tick of a step that takes the clock from k to next.
+pub fn advance(g: Generator, k: Clock, next: Clock, step: u64) -> Advanced
+    requires { ⌜ Ticking g k next step ⌝ }
+    ensures { λ r. ⌜ r ≡ advanceOf g (shown k) step ⌝ }
+{
+    if g.left == 0 {
+        return stay(g);
+    }
+    if is_before(g, next) {
+        Advanced {
+            code: edge_code(g.direction, eighth(g, k, step)),
+            generator: follow(g),
+            event: g.mark == 1,
+            sequence: g.left == 1,
+        }
+    } else {
+        stay(g)
+    }
+}

@@ -1,0 +1,2 @@
+-- What the functions behind the entry points promise.
+pub mod Position

@@ -1,0 +1,91 @@
+// Interrupt words: one constant table of bit positions by source, which setting and reading share, and the masks.
+// Each function returns a definition of the model's specs/Interrupts.antt. Document 01, "Interrupt words"; sheet
+// 000, 7.2.18 to 7.2.20.
+ghost use mathlib.Core.Path.{_≡_};
+ghost use Prim.Native.Nat.{_<_, _^_};
+ghost use Rattle.model.specs.Interrupts.{positions, hasBit, withBit, latch as latchSpec, anyBoth};
+ghost use Rattle.model.specs.Interrupts.{interruptWord, statusWord, onlyBits};
+ghost use Rattle.interrupts.specs.Position.{positionOf, PositionOf};
+use tests::both;
+use tests::pick;
+
+// The bit position of each source, in the order TAC, P1EC, P1SC, P2EC, P2SC, TS1_NE, TS1_OF, TS2_NE, TS2_OF, TS3_NE,
+// TS3_OF.
+const POSITION: [u64; 11] = [0, 1, 2, 4, 5, 8, 9, 10, 11, 12, 13];
+
+fn position(source: usize) -> u64
+    requires { ⌜ source < 11 ⌝ }
+    ensures { λ r. ⌜ PositionOf source r ⌝ }
+{
+    POSITION[source]
+}
+
+fn set(word: u64, source: usize) -> u64
+    requires { ⌜ source < 11 ⌝ }
+    ensures { λ r. ⌜ r ≡ withBit (positionOf source) word ⌝ }
+{
+    word | (1u64 << position(source))
+}
+
+fn is_set(word: u64, source: usize) -> bool
+    requires { ⌜ source < 11 ⌝ }
+    ensures { λ r. ⌜ r ≡ hasBit (positionOf source) word ⌝ }
+{
+    (word >> position(source)) & 1 == 1
+}
+
+// The word with the bit of each source set whose event came; the events stand in the table's order.
+pub fn latch(word: u64, events: [bool; 11]) -> u64
+    ensures { λ r. ⌜ r ≡ latchSpec positions events word ⌝ }
+{
+    let mut latched = word;
+    let mut source = 0;
+    while source < 11 {
+        if events[source] {
+            latched = set(latched, source);
+        }
+        source += 1;
+    }
+    latched
+}
+
+// Some source is set in both words.
+fn any_both(latched: u64, enabled: u64) -> bool
+    ensures { λ r. ⌜ r ≡ anyBoth positions latched enabled ⌝ }
+{
+    let mut source = 0;
+    while source < 11 {
+        if both(is_set(latched, source), is_set(enabled, source)) {
+            return true;
+        }
+        source += 1;
+    }
+    false
+}
+
+// What a read of the latched bits returns: the bits, and bit 14 where one of them is enabled.
+pub fn interrupt_word(latched: u64, enabled: u64) -> u64
+    requires { ⌜ latched < 2 ^ 16 ⌝ }
+    ensures { λ r. ⌜ r ≡ interruptWord latched enabled ⌝ }
+{
+    if any_both(latched, enabled) {
+        latched + 0x4000
+    } else {
+        latched
+    }
+}
+
+// The real-time status bits 9, 8, 7: timestamp FIFOs 3, 2, 1 not empty.
+pub fn status_word(empty1: bool, empty2: bool, empty3: bool) -> u64
+    ensures { λ r. ⌜ r ≡ statusWord empty1 empty2 empty3 ⌝ }
+{
+    pick(empty3, 0, 0x200) | pick(empty2, 0, 0x100) | pick(empty1, 0, 0x80)
+}
+
+// A 16-bit word has only bits of the mask.
+pub fn only_bits(mask: u64, word: u64) -> bool
+    requires { ⌜ mask < 2 ^ 16 ⌝ }
+    ensures { λ r. ⌜ r ≡ onlyBits mask word ⌝ }
+{
+    word | mask == mask
+}

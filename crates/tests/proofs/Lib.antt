@@ -1,0 +1,2 @@
+-- Laws of comparisons that code makes place by place.
+pub mod Places
