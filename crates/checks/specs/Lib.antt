@@ -1,0 +1,2 @@
+-- One line of the ordered list.
+pub mod First

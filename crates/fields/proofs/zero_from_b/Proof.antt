@@ -1,0 +1,10 @@
+-- The definition's tests, in its order.
+use borrow.Author.Needs.{needs}
+use Rattle.fields.proofs.zero_from_b.Statement.{statement}
+use Rattle.fields.proofs.zero_from_b.Tie as tie
+
+returns : tie.Need-returns
+returns c = simp (c .both2 .ensures, c .before .both .ensures, c .before .before .zero-from-d .ensures)
+
+pub zero-from-b-spec : {M : Type 1} → statement M
+zero-from-b-spec = tie.close (tie.spec (search needs) (search needs) (search needs) returns)

@@ -1,0 +1,117 @@
+// The field lists: number 6. One function for each op's list, and one choice among them. Each returns a definition
+// of the model's specs/Fields.antt. Document 01, "Command sheet": unlisted fields must be 0.
+ghost use mathlib.Core.Path.{_≡_};
+ghost use Rattle.model.specs.Tests.{every};
+ghost use Rattle.model.specs.Fields.{zeroFromF, zeroFromD, zeroFromB, isGenerator, tickFields, loadFields};
+ghost use Rattle.model.specs.Fields.{commandFields, armFields, stopFields, maskFields, noFields, fieldsOk};
+use model::Command;
+use tests::both;
+use tests::either;
+
+fn zero_from_f(c: Command) -> bool
+    ensures { λ r. ⌜ r ≡ every (zeroFromF c) ⌝ }
+{
+    both(c.f == 0, both(c.g == 0, c.h == 0))
+}
+
+fn zero_from_d(c: Command) -> bool
+    ensures { λ r. ⌜ r ≡ every (zeroFromD c) ⌝ }
+{
+    both(c.d == 0, both(c.e == 0, zero_from_f(c)))
+}
+
+fn zero_from_b(c: Command) -> bool
+    ensures { λ r. ⌜ r ≡ every (zeroFromB c) ⌝ }
+{
+    both(c.b == 0, both(c.c == 0, zero_from_d(c)))
+}
+
+fn is_generator(n: u64) -> bool
+    ensures { λ r. ⌜ r ≡ isGenerator n ⌝ }
+{
+    either(n == 1, n == 2)
+}
+
+// Op 0: the codes of inputs 1 to 3.
+fn tick_fields(c: Command) -> bool
+    ensures { λ r. ⌜ r ≡ every (tickFields c) ⌝ }
+{
+    both(c.a <= 16, both(c.b <= 16, both(c.c <= 16, zero_from_d(c))))
+}
+
+// Op 1: five words.
+fn load_fields(c: Command) -> bool
+    ensures { λ r. ⌜ r ≡ every (loadFields c) ⌝ }
+{
+    both(
+        c.a < 65536,
+        both(
+            c.b < 65536,
+            both(
+                c.c < 65536,
+                both(c.d < 65536, both(c.e < 65536, zero_from_f(c))),
+            ),
+        ),
+    )
+}
+
+// Op 2: write selector 0 to 2, or 16; read selector 0 to 3, or 8.
+fn command_fields(c: Command) -> bool
+    ensures { λ r. ⌜ r ≡ every (commandFields c) ⌝ }
+{
+    both(
+        either(c.a <= 2, c.a == 16),
+        both(either(c.b <= 3, c.b == 8), both(c.c == 0, zero_from_d(c))),
+    )
+}
+
+// Op 3: generator, start, W + N/D, count, mark.
+fn arm_fields(c: Command) -> bool
+    ensures { λ r. ⌜ r ≡ every (armFields c) ⌝ }
+{
+    let start = both(c.b < 281474976710656, c.c < 1000000000);
+    let whole = both(256 <= c.d, c.d <= 999999999);
+    let part = both(c.e < 4294967296, both(1 <= c.f, c.f < 4294967296));
+    let count = both(1 <= c.g, c.g < 4294967296);
+    both(
+        is_generator(c.a),
+        both(start, both(whole, both(part, both(count, c.h <= 1)))),
+    )
+}
+
+// Op 4: the generator.
+fn stop_fields(c: Command) -> bool
+    ensures { λ r. ⌜ r ≡ every (stopFields c) ⌝ }
+{
+    both(is_generator(c.a), zero_from_b(c))
+}
+
+// Op 6: the mask.
+fn mask_fields(c: Command) -> bool
+    ensures { λ r. ⌜ r ≡ every (maskFields c) ⌝ }
+{
+    both(interrupts::only_bits(0x3F7F, c.a), zero_from_b(c))
+}
+
+// Ops 5, 7 and 8.
+fn no_fields(c: Command) -> bool
+    ensures { λ r. ⌜ r ≡ every (noFields c) ⌝ }
+{
+    both(c.a == 0, zero_from_b(c))
+}
+
+// The list of the command's op.
+pub fn fields_ok(c: Command) -> bool
+    ensures { λ r. ⌜ r ≡ fieldsOk c ⌝ }
+{
+    let op = c.op;
+    match op {
+        0 => tick_fields(c),
+        1 => load_fields(c),
+        2 => command_fields(c),
+        3 => arm_fields(c),
+        4 => stop_fields(c),
+        6 => mask_fields(c),
+        _ => no_fields(c),
+    }
+}
