@@ -1,0 +1,2 @@
+-- What a step on a valid record promises.
+pub mod Stepped

@@ -1,0 +1,34 @@
+-- The definition's words; the oldest timestamp's EDGE is 0 or 1.
+use borrow.Author.Needs.{needs}
+use borrow.Author.Tests.{eq-eqb, ne-eqb}
+use Rattle.model.specs.Execute.{readWords}
+use Rattle.model.proofs.Laws.Fifo.{oldest-rising}
+use Rattle.ops.proofs.read_words.Statement.{statement}
+use Rattle.ops.proofs.read_words.Tie as tie
+
+returns : tie.Need-returns
+unfolding readWords
+returns c = simp (c .time-words .ensures, eq-eqb _ _ (c .before .if1 .taken))
+
+time-words-requires-2 : tie.Need-time-words-requires-2
+time-words-requires-2 c κs =
+    let k = c .before .before .before .pre in
+    rw (
+      c .oldest .ensures,
+      c .before .fifo-at .ensures,
+    ) (oldest-rising _ (k .filled (ne-eqb _ _ (c .before .before .if1 .left))) (k .ok))
+
+returns-2 : tie.Need-returns-2
+unfolding readWords
+returns-2 c =
+    simp (
+      c .time-words2 .ensures,
+      c .before .oldest .ensures,
+      c .before .before .fifo-at .ensures,
+      ne-eqb _ _ (c .before .before .before .if1 .left),
+    )
+
+pub read-words-spec : {M : Type 1} → statement M
+read-words-spec =
+    tie.close
+    (tie.spec (search needs) returns (search needs) (search needs) time-words-requires-2 returns-2)

@@ -1,0 +1,2 @@
+-- What an accepted tick knows of its record.
+pub mod Within
