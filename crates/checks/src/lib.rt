@@ -1,6 +1,6 @@
-// The checks of a command on a valid record, numbers 5 to 15: one function for each, and the ordered list, where the
-// first that fails is the answer. Each check returns what the model's table says of its number (specs/Checks.antt).
-// Document 01, "Where each command is checked".
+// The checks of a command on a valid record, numbers 5 to 15: a function for each that is more than a comparison,
+// and the ordered list, where the first that fails is the answer. Each returns what the model's table says of its
+// number (specs/Checks.antt). Document 01, "Where each command is checked".
 ghost use mathlib.Core.Path.{_≡_};
 ghost use mathlib.Core.Bool.{true};
 ghost use Rattle.model.specs.Ranges.{valid};
@@ -48,7 +48,7 @@ fn timestamp_waits(e: Engine, c: Command) -> bool
     )
 }
 
-// 8: a TIME that is written is one.
+// 8: a TIME that is written has an NS below a second, and nothing above it.
 fn time_ok(e: Engine, c: Command) -> bool
     requires { ⌜ valid e ≡ true ⌝ }
     ensures { λ r. ⌜ r ≡ passes e c 8 ⌝ }
@@ -56,13 +56,13 @@ fn time_ok(e: Engine, c: Command) -> bool
     implies(
         writes(c, 0),
         both(
-            words::nanoseconds_in(e.words) <= 999999999,
+            words::nanoseconds_in(e.words) <= 999_999_999,
             words::above_nanoseconds(e.words) == 0,
         ),
     )
 }
 
-// 9: an amount that is written has an NS, and PERIOD its zero byte.
+// 9: an amount that is written has an NS, and a PERIOD its zero byte.
 fn amount_ok(e: Engine, c: Command) -> bool
     ensures { λ r. ⌜ r ≡ passes e c 9 ⌝ }
 {

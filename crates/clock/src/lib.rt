@@ -11,6 +11,8 @@ ghost use Rattle.model.specs.Bounds.{ClockIn};
 ghost use Rattle.clock.specs.Cycle.{Cycle};
 use model::Adjustment;
 use model::Clock;
+use model::NS_PER_SECOND;
+use model::STEP_UNIT;
 use model::Steering;
 use tests::both;
 use tests::either;
@@ -28,7 +30,7 @@ pub fn step_by(k: Clock, amount: u64) -> u64
     requires { ⌜ (k .remainder < 2 ^ 24) × (amount < 2 ^ 40) ⌝ }
     ensures { λ r. ⌜ r ≡ stepBy k amount ⌝ }
 {
-    (k.remainder + amount) / 16777216
+    (k.remainder + amount) / STEP_UNIT
 }
 
 // One reference cycle: the time shown gains the step, and the remainder keeps what is below it.
@@ -39,10 +41,10 @@ pub fn tick_clock(k: Clock, amount: u64, step: u64) -> Clock
     let fraction = k.fraction + step;
     let nanoseconds = k.nanoseconds + fraction / 256;
     Clock {
-        seconds: k.seconds + nanoseconds / 1000000000,
-        nanoseconds: nanoseconds % 1000000000,
+        seconds: k.seconds + nanoseconds / NS_PER_SECOND,
+        nanoseconds: nanoseconds % NS_PER_SECOND,
         fraction: fraction % 256,
-        remainder: (k.remainder + amount) % 16777216,
+        remainder: (k.remainder + amount) % STEP_UNIT,
     }
 }
 
@@ -93,8 +95,8 @@ pub fn ends_in_time(k: Clock, step: u64) -> bool
     ensures { λ r. ⌜ r ≡ ltb (shown k + step) endOfTime ⌝ }
 {
     either(
-        k.seconds < 281474976710655,
-        k.nanoseconds * 256 + k.fraction + step < 256000000000,
+        k.seconds < 0xFFFF_FFFF_FFFF,
+        k.nanoseconds * 256 + k.fraction + step < 256_000_000_000,
     )
 }
 
@@ -107,8 +109,8 @@ pub fn is_not_past(k: Clock, seconds: u64, nanoseconds: u64) -> bool
     if k.seconds < seconds {
         return true;
     }
-    let second = seconds + nanoseconds / 1000000000;
-    let rest = nanoseconds % 1000000000;
+    let second = seconds + nanoseconds / NS_PER_SECOND;
+    let rest = nanoseconds % NS_PER_SECOND;
     either(
         k.seconds < second,
         both(

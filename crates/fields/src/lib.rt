@@ -5,6 +5,11 @@ ghost use Rattle.model.specs.Tests.{every};
 ghost use Rattle.model.specs.Fields.{zeroFromF, zeroFromD, zeroFromB, isGenerator, tickFields, loadFields};
 ghost use Rattle.model.specs.Fields.{commandFields, armFields, stopFields, maskFields, noFields, fieldsOk};
 use model::Command;
+use model::ENABLED_MASK;
+use model::LONG_LIMIT;
+use model::NS_PER_SECOND;
+use model::SECONDS_LIMIT;
+use model::WORD_LIMIT;
 use tests::both;
 use tests::either;
 
@@ -44,12 +49,12 @@ fn load_fields(c: Command) -> bool
     ensures { λ r. ⌜ r ≡ every (loadFields c) ⌝ }
 {
     both(
-        c.a < 65536,
+        c.a < WORD_LIMIT,
         both(
-            c.b < 65536,
+            c.b < WORD_LIMIT,
             both(
-                c.c < 65536,
-                both(c.d < 65536, both(c.e < 65536, zero_from_f(c))),
+                c.c < WORD_LIMIT,
+                both(c.d < WORD_LIMIT, both(c.e < WORD_LIMIT, zero_from_f(c))),
             ),
         ),
     )
@@ -69,10 +74,10 @@ fn command_fields(c: Command) -> bool
 fn arm_fields(c: Command) -> bool
     ensures { λ r. ⌜ r ≡ every (armFields c) ⌝ }
 {
-    let start = both(c.b < 281474976710656, c.c < 1000000000);
-    let whole = both(256 <= c.d, c.d <= 999999999);
-    let part = both(c.e < 4294967296, both(1 <= c.f, c.f < 4294967296));
-    let count = both(1 <= c.g, c.g < 4294967296);
+    let start = both(c.b < SECONDS_LIMIT, c.c < NS_PER_SECOND);
+    let whole = both(256 <= c.d, c.d <= 999_999_999);
+    let part = both(c.e < LONG_LIMIT, both(1 <= c.f, c.f < LONG_LIMIT));
+    let count = both(1 <= c.g, c.g < LONG_LIMIT);
     both(
         is_generator(c.a),
         both(start, both(whole, both(part, both(count, c.h <= 1)))),
@@ -90,7 +95,7 @@ fn stop_fields(c: Command) -> bool
 fn mask_fields(c: Command) -> bool
     ensures { λ r. ⌜ r ≡ every (maskFields c) ⌝ }
 {
-    both(interrupts::only_bits(0x3F7F, c.a), zero_from_b(c))
+    both(interrupts::only_bits(ENABLED_MASK, c.a), zero_from_b(c))
 }
 
 // Ops 5, 7 and 8.

@@ -8,6 +8,7 @@ ghost use Rattle.model.specs.Fifo.{emptyFifo, noTimestamp, isEmpty, entry, time
 ghost use Rattle.fifo.specs.Capture.{EighthOf, OffsetOf, Stamping, Capturing, pushed, captureOf};
 use model::Clock;
 use model::Fifo;
+use model::NS_PER_SECOND;
 use model::Timestamp;
 use tests::pick;
 
@@ -72,8 +73,8 @@ fn timestamp(k: Clock, step: u64, code: u64) -> Timestamp
 {
     let nanoseconds = k.nanoseconds + (8 * k.fraction + offset(step, code)) / 2048;
     Timestamp {
-        seconds: k.seconds + nanoseconds / 1000000000,
-        nanoseconds: nanoseconds % 1000000000,
+        seconds: k.seconds + nanoseconds / NS_PER_SECOND,
+        nanoseconds: nanoseconds % NS_PER_SECOND,
         rising: pick(code <= 8, 0, 1),
     }
 }

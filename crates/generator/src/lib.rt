@@ -10,6 +10,8 @@ ghost use Rattle.generator.specs.Advance.{Comparable, Running, Due, Tick
 use model::Clock;
 use model::Generator;
 use model::Instant;
+use model::NS_PER_SECOND;
+use model::SECONDS_LIMIT;
 use tests::both;
 use tests::either;
 
@@ -66,7 +68,7 @@ fn eighth(g: Generator, k: Clock, step: u64) -> u64
     requires { ⌜ Due g k step ⌝ }
     ensures { λ r. ⌜ r ≡ eighthOf g (shown k) step ⌝ }
 {
-    let whole = (g.pending.seconds - k.seconds) * 1000000000 + g.pending.nanoseconds
+    let whole = (g.pending.seconds - k.seconds) * NS_PER_SECOND + g.pending.nanoseconds
         - k.nanoseconds;
     let ahead = (whole * 256 * g.denominator + g.pending.remainder * 256)
         - k.fraction * g.denominator;
@@ -93,8 +95,8 @@ fn next_instant(g: Generator) -> Instant
     let part = g.pending.remainder + g.numerator;
     let nanoseconds = g.pending.nanoseconds + g.whole + part / g.denominator;
     Instant {
-        seconds: g.pending.seconds + nanoseconds / 1000000000,
-        nanoseconds: nanoseconds % 1000000000,
+        seconds: g.pending.seconds + nanoseconds / NS_PER_SECOND,
+        nanoseconds: nanoseconds % NS_PER_SECOND,
         remainder: part % g.denominator,
     }
 }
@@ -105,7 +107,7 @@ fn follow(g: Generator) -> Generator
     ensures { λ r. ⌜ r ≡ following g ⌝ }
 {
     let next = next_instant(g);
-    if either(g.left == 1, 281474976710656 <= next.seconds) {
+    if either(g.left == 1, SECONDS_LIMIT <= next.seconds) {
         return idle_generator();
     }
     Generator {

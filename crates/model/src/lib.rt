@@ -1,6 +1,25 @@
-// The plain types of the time engine: the engine record, a command and an outcome. They are declared here and nothing
-// runs here; what they mean stands in specs/, to be read in the order of specs/Lib.antt. Every number is a u64, so that
-// the ranges of check 4 say something.
+// The plain types of the time engine: the engine record, a command and an outcome, and the limits that the code
+// names. They are declared here and nothing runs here; what they mean stands in specs/, to be read in the order of
+// specs/Lib.antt. Every number is a u64, so that the ranges of check 4 say something.
+
+// Seconds are below 2^48.
+pub const SECONDS_LIMIT: u64 = 0x1_0000_0000_0000;
+
+// The nanoseconds in a second.
+pub const NS_PER_SECOND: u64 = 1_000_000_000;
+
+// The 2^-32 ns in 1/256 ns: an amount over it makes a step.
+pub const STEP_UNIT: u64 = 0x100_0000;
+
+// Words are below 2^16; N, D and counts of edges below 2^32.
+pub const WORD_LIMIT: u64 = 0x1_0000;
+
+pub const LONG_LIMIT: u64 = 0x1_0000_0000;
+
+// The bits that can be latched, and those that can be enabled.
+pub const LATCHED_MASK: u64 = 0x3F37;
+
+pub const ENABLED_MASK: u64 = 0x3F7F;
 
 // The time shown (48-bit seconds, nanoseconds, 1/256 ns) and the hidden remainder in 2^-32 ns.
 pub struct Clock {

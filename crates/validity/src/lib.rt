@@ -10,12 +10,19 @@ ghost use Rattle.model.specs.Ranges.{clockOk, amountOk, adjustmentOk, steeringO
 ghost use Rattle.model.specs.Ranges.{runningTests, idleTests, generatorOk, interruptsOk, wordsOk, valid};
 use model::Adjustment;
 use model::Clock;
+use model::ENABLED_MASK;
 use model::Engine;
 use model::Fifo;
 use model::Generator;
 use model::Interrupts;
+use model::LATCHED_MASK;
+use model::LONG_LIMIT;
+use model::NS_PER_SECOND;
+use model::SECONDS_LIMIT;
+use model::STEP_UNIT;
 use model::Steering;
 use model::Timestamp;
+use model::WORD_LIMIT;
 use model::Words;
 use tests::both;
 use tests::fails;
@@ -24,10 +31,10 @@ fn clock_ok(k: Clock) -> bool
     ensures { λ r. ⌜ r ≡ clockOk k ⌝ }
 {
     both(
-        k.seconds < 281474976710656,
+        k.seconds < SECONDS_LIMIT,
         both(
-            k.nanoseconds < 1000000000,
-            both(k.fraction < 256, k.remainder < 16777216),
+            k.nanoseconds < NS_PER_SECOND,
+            both(k.fraction < 256, k.remainder < STEP_UNIT),
         ),
     )
 }
@@ -36,7 +43,7 @@ fn clock_ok(k: Clock) -> bool
 fn amount_ok(x: u64) -> bool
     ensures { λ r. ⌜ r ≡ amountOk x ⌝ }
 {
-    both(4294967296 <= x, x < 1099511627776)
+    both(0x1_0000_0000 <= x, x < 0x100_0000_0000)
 }
 
 // Idle and zero, or running.
@@ -46,7 +53,7 @@ fn adjustment_ok(j: Adjustment) -> bool
     if j.cycles == 0 {
         return j.amount == 0;
     }
-    both(amount_ok(j.amount), j.cycles < 16777216)
+    both(amount_ok(j.amount), j.cycles < 0x100_0000)
 }
 
 fn steering_ok(s: Steering) -> bool
@@ -59,8 +66,8 @@ fn timestamp_ok(t: Timestamp) -> bool
     ensures { λ r. ⌜ r ≡ timestampOk t ⌝ }
 {
     both(
-        t.seconds < 281474976710656,
-        both(t.nanoseconds < 1000000000, t.rising <= 1),
+        t.seconds < SECONDS_LIMIT,
+        both(t.nanoseconds < NS_PER_SECOND, t.rising <= 1),
     )
 }
 
@@ -99,12 +106,12 @@ fn running_ok(g: Generator) -> bool
     ensures { λ r. ⌜ r ≡ every (runningTests g) ⌝ }
 {
     let pending = both(
-        g.pending.seconds < 281474976710656,
-        g.pending.nanoseconds < 1000000000,
+        g.pending.seconds < SECONDS_LIMIT,
+        g.pending.nanoseconds < NS_PER_SECOND,
     );
-    let whole = both(256 <= g.whole, g.whole <= 999999999);
-    let part = both(g.numerator < g.denominator, g.denominator < 4294967296);
-    let flags = both(g.left < 4294967296, both(g.direction <= 1, g.mark <= 1));
+    let whole = both(256 <= g.whole, g.whole <= 999_999_999);
+    let part = both(g.numerator < g.denominator, g.denominator < LONG_LIMIT);
+    let flags = both(g.left < LONG_LIMIT, both(g.direction <= 1, g.mark <= 1));
     both(
         pending,
         both(
@@ -144,8 +151,8 @@ fn interrupts_ok(i: Interrupts) -> bool
     ensures { λ r. ⌜ r ≡ interruptsOk i ⌝ }
 {
     both(
-        interrupts::only_bits(0x3F37, i.latched),
-        interrupts::only_bits(0x3F7F, i.enabled),
+        interrupts::only_bits(LATCHED_MASK, i.latched),
+        interrupts::only_bits(ENABLED_MASK, i.enabled),
     )
 }
 
@@ -153,10 +160,13 @@ fn words_ok(w: Words) -> bool
     ensures { λ r. ⌜ r ≡ wordsOk w ⌝ }
 {
     both(
-        w.w1 < 65536,
+        w.w1 < WORD_LIMIT,
         both(
-            w.w2 < 65536,
-            both(w.w3 < 65536, both(w.w4 < 65536, w.w5 < 65536)),
+            w.w2 < WORD_LIMIT,
+            both(
+                w.w3 < WORD_LIMIT,
+                both(w.w4 < WORD_LIMIT, w.w5 < WORD_LIMIT),
+            ),
         ),
     )
 }
