@@ -18,6 +18,8 @@ use Rattle.model.specs.Ranges
 use Rattle.model.specs.Fields
 use Rattle.model.specs.Checks
 use Rattle.model.specs.Execute
+use Rattle.model.specs.Text
+use Rattle.model.specs.Sheet
 use Rattle.model.specs.Run.{Entry, engineAfter, engineFrom, history, historyFrom}
 
 -- an example: what a run gives, and what document 01 states
@@ -56,6 +58,10 @@ lastValues : List Entry → List ℕ
 lastValues [] = []
 lastValues (x ∷ []) = x .values .w1 ∷ x .values .w2 ∷ x .values .w3 ∷ x .values .w4 ∷ x .values .w5 ∷ []
 lastValues (x ∷ y ∷ xs) = lastValues (y ∷ xs)
+
+-- the line and the number of a sheet's refusal
+verdict : List ℕ → List ℕ
+verdict s = Sheet.sheetVerdict s .line ∷ Sheet.sheetVerdict s .answer ∷ []
 
 values : List Command → List ℕ
 values cs = lastValues (history cs)
@@ -129,6 +135,9 @@ examples =
       found = values (replicate 9 (input 1) ++ line 5 0 0 0 0 0 ∷ []);
       stated = (512 + 256) ∷ 0 ∷ 0 ∷ 0 ∷ 0 ∷ [];
     }
+    -- Empty sheet: 2. First line alone: accepted.
+    ∷ record { found = verdict []; stated = 1 ∷ 2 ∷ [] }
+    ∷ record { found = verdict Sheet.firstLine; stated = 0 ∷ 0 ∷ [] }
     ∷ []
 
 -- every starred example is as stated
@@ -144,5 +153,5 @@ unfolding examples answers lastValues values shownAfter edgeAt edgesFrom engineF
     Ranges.generatorOk Ranges.interruptsOk Ranges.wordsOk Ranges.valid Fields.fieldTests Fields.fieldsOk
     Checks.checks Checks.answerOf Execute.tickEvents Execute.tickEngine Execute.tickValues Execute.written
     Execute.readWords Execute.readEngine Execute.commanded Execute.interruptsRead Execute.statusOf Execute.performed
-    Execute.execute
+    Execute.execute verdict Text.isValue Sheet.isLine Sheet.sheetVerdict
 examples-hold = refl

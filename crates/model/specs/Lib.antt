@@ -18,6 +18,9 @@ pub mod Fields
 pub mod Checks
 pub mod Execute
 pub mod Run
+-- the command sheet: text, and the sheet's own checks (numbers 1 to 3)
+pub mod Text
+pub mod Sheet
 -- the other side of demand 3: exact fractions, the ledger, the returned edges, and what is asked of them
 pub mod Fractions
 pub mod Ledger

@@ -1,0 +1,74 @@
+-- The command sheet: its first line, its value lines, and the answer to the sheet as a whole. Document 01, "Command
+-- sheet" and "Where each command is checked", numbers 1 to 3.
+use Prim.Native.Nat.{ℕ, _+_}
+use mathlib.Core.List.{List, [], _∷_, map}
+use mathlib.Core.Bool.{Bool, true, false, _&&_, cond}
+use lib.Dec.{eqb, ltb}
+use lib.ListN.{length, getD, drop}
+use Rattle.model.specs.declared.Command.{Command}
+use Rattle.model.specs.declared.Line.{Line}
+use Rattle.model.specs.declared.Verdict.{Verdict}
+use Rattle.model.specs.Text.{comma, lineEnd, isValue, numberAfter, parts}
+
+-- `op,a,b,c,d,e,f,g,h` and its line end
+abbrev pub firstLine : List ℕ
+firstLine =
+    111 ∷ 112 ∷ 44 ∷ 97 ∷ 44 ∷ 98 ∷ 44 ∷ 99 ∷ 44 ∷ 100 ∷ 44 ∷ 101 ∷ 44 ∷ 102 ∷ 44 ∷ 103 ∷ 44 ∷ 104 ∷ 10 ∷ []
+
+abbrev pub startsWith : List ℕ → List ℕ → Bool
+startsWith [] s = true
+startsWith (h ∷ hs) [] = false
+startsWith (h ∷ hs) (b ∷ bs) = eqb b h && startsWith hs bs
+
+abbrev pub allValues : List (List ℕ) → Bool
+allValues [] = true
+allValues (p ∷ ps) = isValue p && allValues ps
+
+-- a value line, without its line end: nine values
+unfoldable pub isLine : List ℕ → Bool
+isLine bs = eqb (length (parts comma bs)) 9 && allValues (parts comma bs)
+
+-- nine numbers as a command
+abbrev pub commandOf : List ℕ → Command
+commandOf ns = record {
+  op = getD ns 0 0;
+  a = getD ns 1 0;
+  b = getD ns 2 0;
+  c = getD ns 3 0;
+  d = getD ns 4 0;
+  e = getD ns 5 0;
+  f = getD ns 6 0;
+  g = getD ns 7 0;
+  h = getD ns 8 0;
+}
+
+-- the command of a value line
+abbrev pub commandIn : List ℕ → Command
+commandIn bs = commandOf (map (numberAfter 0) (parts comma bs))
+
+abbrev pub noLine : Line
+noLine = record { ok = false; command = commandOf [] }
+
+unfoldable pub lineOf : List ℕ → Line
+lineOf bs = cond (isLine bs) (record { ok = true; command = commandIn bs }) noLine
+
+-- the sheet is accepted, or refused at a line with a number
+abbrev pub refusedAt : ℕ → ℕ → Verdict
+refusedAt line answer = record { line = line; answer = answer }
+
+abbrev pub sheetAccepted : Verdict
+sheetAccepted = refusedAt 0 0
+
+-- the value lines from line number k on; what stands behind the last line end has to be empty
+abbrev pub bodyVerdict : ℕ → List (List ℕ) → Verdict
+bodyVerdict k [] = sheetAccepted
+bodyVerdict k (l ∷ []) = cond (eqb (length l) 0) sheetAccepted (refusedAt k 3)
+bodyVerdict k (l ∷ m ∷ ls) = cond (isLine l) (bodyVerdict (k + 1) (m ∷ ls)) (refusedAt k 3)
+
+-- 1 over 65,536 bytes (line 0); 2 first line differs (line 1); 3 first value line of another form (its line)
+unfoldable pub sheetVerdict : List ℕ → Verdict
+sheetVerdict s =
+    cond (ltb 65536 (length s)) (refusedAt 0 1)
+    (cond (startsWith firstLine s)
+    (bodyVerdict 2 (parts lineEnd (drop 19 s)))
+    (refusedAt 1 2))

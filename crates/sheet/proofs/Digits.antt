@@ -1,0 +1,55 @@
+-- Writing a digit after a number does not make it smaller, so a number that has passed 2^64 stays there, and reading
+-- may stop at once. How a text leads is told by its length and its first byte.
+use mathlib.Core.Path.{_≡_, refl, sym, _∙_}
+use mathlib.Core.List.{List, [], _∷_}
+use mathlib.Core.Bool.{Bool, true, false, _&&_, and-false, not, cond}
+use Prim.Native.Nat.{ℕ, suc, _+_, _*_, _-_, _^_, _≤_, _<_}
+use native.Mathlib.Numerals.{add-one}
+use native.Mathlib.Omega.{arith}
+use lib.Dec.{eqb, ltb}
+use lib.ListN.{length, getD, drop}
+use lib.Seq.{drop-cons}
+use borrow.Author.Tests.{le-ltb, ltb-false, ne-eqb}
+use Rattle.model.specs.declared.Value.{Value}
+use Rattle.model.specs.Text.{isDigit, allDigits, numberAfter, leadsWell, noValue}
+use Rattle.sheet.specs.Reading.{digitAfter}
+
+abbrev valueIf : Bool → ℕ → Value
+valueIf test n = cond test (record { ok = true; number = n }) noValue
+
+-- the value that v becomes when digits are written after it
+abbrev pub readAfter : ℕ → List ℕ → Value
+readAfter v bs = valueIf (allDigits bs && ltb (numberAfter v bs) (2 ^ 64)) (numberAfter v bs)
+
+grows : (v : ℕ) (bs : List ℕ) → v ≤ numberAfter v bs
+grows v [] = omega arith
+grows v (b ∷ bs) = omega (arith, grows (v * 10 + (b - 48)) bs)
+
+-- n is the number after the next digit
+read-step : (n : ℕ) (bs : List ℕ) (next : Value) (digit fits : Bool) → ltb n (2 ^ 64) ≡ fits
+    → next ≡ valueIf (digit && fits) n
+    → valueIf (digit && allDigits bs && ltb (numberAfter n bs) (2 ^ 64)) (numberAfter n bs)
+    ≡ cond (next .ok) (readAfter (next .number) bs) noValue
+read-step n bs next false fits h e = rw e
+read-step n bs next true true h e = rw e
+read-step n bs next true false h e =
+    rw (e, le-ltb (numberAfter n bs) (2 ^ 64) (omega (arith, ltb-false, grows n bs)), and-false)
+
+-- what all the bytes make, the next number makes with those that are left
+pub read-turn : {whole : Value} {ok : Bool} (s : List ℕ) (i v : ℕ) (next : Value) → i < length s
+    → next ≡ digitAfter v (getD s i 0)
+    → next .ok ≡ ok
+    → readAfter v (drop i s) ≡ whole
+    → cond ok (readAfter (next .number) (drop (i + 1) s)) noValue ≡ whole
+read-turn s i v next l e h here =
+    let b = getD s i 0 in
+    let step = read-step (v * 10 + (b - 48)) (drop (suc i) s) next (isDigit b) _ refl e in
+    rw (← h, add-one) (sym step ∙ rw (drop-cons s i 0) at here)
+
+pub leads-by-length : (s : List ℕ)
+    → leadsWell s ≡ cond (eqb (length s) 0) false (cond (eqb (length s) 1) true (not (eqb (getD s 0 0) 48)))
+leads-by-length [] = refl
+leads-by-length (b ∷ []) = refl
+leads-by-length (b ∷ d ∷ bs) =
+    let n = length (b ∷ d ∷ bs) in
+    rw (ne-eqb n 0 (λ e. omega arith), ne-eqb n 1 (λ e. omega arith))

@@ -1,0 +1,112 @@
+-- A line whose first part is a value is the line with this number read and one part fewer left; with another first
+-- part, or another number of parts than are wanted, it is none.
+use mathlib.Core.Path.{_≡_, sym, ap, _∙_}
+use mathlib.Core.Bool.{true, false, _&&_, cond, and-false}
+use mathlib.Core.List.{List, [], _∷_, _++_, map, append-assoc, append-nil}
+use Prim.Native.Nat.{ℕ, suc, _+_, _-_, _≤_, _<_}
+use native.Mathlib.Numerals.{add-one}
+use native.Mathlib.Nat.{add-suc, suc-add, zero-add}
+use native.Mathlib.Decide.{decLt}
+use native.Mathlib.Omega.{arith}
+use lib.Dec.{eqb}
+use lib.ListN.{length, take, drop, set, length-drop, length-set}
+use lib.Seq.{take-suc-set, take-all}
+use borrow.Author.Tests.{ne-eqb}
+use Rattle.model.specs.declared.Line.{Line}
+use Rattle.model.specs.declared.Value.{Value}
+use Rattle.model.specs.Text.{comma, numberAfter, valueOf, parts, firstPart}
+use Rattle.model.specs.Sheet.{allValues, isLine, commandOf, noLine, lineOf}
+use Rattle.sheet.specs.Reading.{RunTo}
+use Rattle.sheet.proofs.Parts.{parts-some, one-part, more-parts, first-is, parts-last, parts-more}
+use Rattle.sheet.proofs.Values.{value-test, value-number, value-one-part}
+
+-- the line whose first k numbers are those of ns, and whose other parts are ps
+unfoldable pub lineWith : ℕ → List ℕ → List (List ℕ) → Line
+lineWith k ns ps =
+    cond (eqb (k + length ps) 9 && allValues ps)
+    (record { ok = true; command = commandOf (take k ns ++ map (numberAfter 0) ps) })
+    noLine
+
+line-count : (k : ℕ) (ns : List ℕ) (ps : List (List ℕ)) → (k + length ps ≡ 9 → ⊥) → lineWith k ns ps ≡ noLine
+unfolding lineWith
+line-count k ns ps h = rw (ne-eqb _ _ h)
+
+line-full : (ns : List ℕ) → length ns ≡ 9 → lineWith 9 ns [] ≡ record { ok = true; command = commandOf ns }
+unfolding lineWith
+line-full ns h = rw (append-nil, take-all 9 ns (omega arith))
+
+-- the next part, read
+module _ (k : ℕ) (ns p : List ℕ) (ps : List (List ℕ)) (r : Value) (e : r ≡ valueOf p) where
+  line-value : k < length ns → r .ok ≡ true → lineWith k ns (p ∷ ps) ≡ lineWith (k + 1) (set ns k (r .number)) ps
+  unfolding lineWith
+  line-value l h =
+      rw (
+        value-number p r e h,
+        add-one,
+        add-suc,
+        suc-add,
+        take-suc-set ns k (numberAfter 0 p) l,
+        append-assoc,
+        value-test p r e true h,
+      )
+
+  line-no-value : r .ok ≡ false → lineWith k ns (p ∷ ps) ≡ noLine
+  unfolding lineWith
+  line-no-value h = rw (value-test p r e false h, and-false)
+
+-- the first k numbers of the line s stand in ns, and its other parts from an index on
+pub record ReadTo (s ns : List ℕ) (at k : ℕ) : Type 0 where
+  pub few : k ≤ 8
+  pub inside : at ≤ length s
+  pub room : length ns ≡ 9
+  pub whole : lineWith k ns (parts comma (drop at s)) ≡ lineOf s
+
+pub line-start : (s ns : List ℕ) → length ns ≡ 9 → ReadTo s ns 0 0
+unfolding lineWith lineOf isLine
+line-start s ns room = record { few = omega arith; inside = omega arith; room = room; whole = rw zero-add }
+
+-- one of the first eight parts, up to its comma
+module _ {s ns : List ℕ} {at k n : ℕ} (to : ReadTo s ns at k) (run : RunTo comma at s n) (l : k < 8) where
+  pub line-cut : length s ≤ at + n → noLine ≡ lineOf s
+  line-cut h =
+      let one = ap length (parts-last comma s at n (run .is) h) in
+      sym (line-count k ns (parts comma (drop at s)) (λ c. omega arith)) ∙ to .whole
+
+  module _ {r : Value} (more : at + n < length s) (e : r ≡ valueOf (take (at + n - at) (drop at s))) where
+    here : parts comma (drop at s) ≡ take (at + n - at) (drop at s) ∷ parts comma (drop (at + n + 1) s)
+    here = rw (first-is comma s at n (run .is)) (parts-more comma s at n (run .is) more)
+
+    pub line-on : r .ok ≡ true → ReadTo s (set ns k (r .number)) (at + n + 1) (k + 1)
+    line-on h = record {
+      few = omega arith;
+      inside = omega arith;
+      room = rw length-set (to .room);
+      whole = sym (line-value k ns _ _ r e (omega arith) h) ∙ (rw here at (to .whole));
+    }
+
+    pub line-stop : r .ok ≡ false → noLine ≡ lineOf s
+    line-stop h = sym (line-no-value k ns _ _ r e h) ∙ (rw here at (to .whole))
+
+-- the ninth part, up to the end: a value has no comma, and with one there are too many parts
+module _ {s ns : List ℕ} {at k : ℕ} {r : Value} (to : ReadTo s ns at k) (ninth : 8 ≤ k)
+    (e : r ≡ valueOf (take (length s - at) (drop at s))) where
+  rest-read : r ≡ valueOf (drop at s)
+  rest-read = rw (take-all (length s - at) (drop at s) (omega (arith, length-drop at s))) at e
+
+  pub line-last : r .ok ≡ true → record { ok = true; command = commandOf (set ns 8 (r .number)) } ≡ lineOf s
+  line-last h =
+      let eight : k ≡ 8 = omega arith in
+      let one = value-one-part (drop at s) (value-test (drop at s) r rest-read true h) in
+      sym (line-value 8 ns (drop at s) [] r rest-read (omega arith) h
+      ∙ line-full (set ns 8 (r .number)) (rw length-set (to .room)))
+      ∙ (rw (eight, one) at (to .whole))
+
+  pub line-no-last : r .ok ≡ false → noLine ≡ lineOf s
+  line-no-last h =
+      sym (elim (decLt (length (firstPart comma (drop at s))) (length (drop at s))) [
+        | yes l ↦
+            let behind = parts-some comma (drop (suc (length (firstPart comma (drop at s)))) (drop at s)) in
+            let more = ap length (more-parts comma (drop at s) l) in
+            line-count k ns (parts comma (drop at s)) (λ c. omega arith)
+        | no l ↦ rw (one-part comma (drop at s) (omega arith)) (line-no-value k ns (drop at s) [] r rest-read h)
+      ]) ∙ to .whole

@@ -1,0 +1,47 @@
+-- Each turn is one step of the definition, so while the bytes agree those that are left decide.
+use Prim.Native.Nat.{_≤_, _-_}
+use mathlib.Core.Path.{_≡_, refl, sym}
+use native.Mathlib.Omega.{arith}
+use lib.ListN.{drop}
+use borrow.Author.Needs.{needs}
+use borrow.Author.Tests.{eq-eqb, ne-eqb}
+use Rattle.model.specs.Sheet.{firstLine, startsWith}
+use Rattle.sheet.proofs.FirstLine.{starts-turn, starts-short}
+use Rattle.sheet.proofs.starts_well.Statement.{statement}
+use Rattle.sheet.proofs.starts_well.Tie as tie
+
+abbrev Inv-loop : tie.InvT-loop
+Inv-loop s i₀ i = (i ≤ 19) × (startsWith (drop i firstLine) (drop i s) ≡ startsWith firstLine s)
+
+abbrev μ-loop : tie.MeasureT-loop
+μ-loop s i₀ i = 19 - i
+
+returns : tie.Need-returns Inv-loop μ-loop
+returns c = sym (starts-short firstLine (c .before .args .s .now) (c .if1 .taken))
+
+returns-2 : tie.Need-returns-2 Inv-loop μ-loop
+returns-2 c =
+    let turn = c .before .before in
+    let at = turn .before in
+    starts-turn firstLine _ _ (turn .loop-test .taken) (at .before .if1 .left) (ne-eqb _ _ (c .if2 .taken))
+    (at .loop .inv .1)
+
+loop-again : tie.Need-loop-again Inv-loop μ-loop
+loop-again c =
+    let turn = c .before .before in
+    let at = turn .before in (
+      search needs,
+      starts-turn firstLine _ _ (turn .loop-test .taken) (at .before .if1 .left) (eq-eqb _ _ (c .if2 .left))
+          (at .loop .inv .1),
+    )
+
+returns-3 : tie.Need-returns-3 Inv-loop μ-loop
+returns-3 c =
+    let end : c .before .loop .i ≡ 19 = omega arith in
+    rw end at (c .before .loop .inv .1)
+
+pub starts-well-spec : {M : Type 1} → statement M
+starts-well-spec =
+    tie.close
+    (tie.spec Inv-loop μ-loop returns (λ c. (search needs, refl)) (search needs) (search needs) returns-2
+    (search needs) (search needs) loop-again returns-3)

@@ -1,0 +1,2 @@
+-- The steps of reading.
+pub mod Reading

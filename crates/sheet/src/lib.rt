@@ -1,0 +1,237 @@
+// Reading a command sheet: one value, one value line as a part of the caller's slice, and the sheet as a whole,
+// numbers 1 to 3. Each function returns a definition of the model's specs/Text.antt and specs/Sheet.antt. Document
+// 01, "Command sheet".
+ghost use mathlib.Core.Path.{_≡_};
+ghost use Prim.Native.Nat.{_+_, _≤_};
+ghost use lib.ListN.{length, drop};
+ghost use Rattle.model.specs.Text.{lineEnd, noValue, leadsWell, valueOf, parts, firstPart};
+ghost use Rattle.model.specs.Sheet.{firstLine, startsWith, commandOf, noLine, lineOf, refusedAt, bodyVerdict};
+ghost use Rattle.model.specs.Sheet.{sheetVerdict};
+ghost use Rattle.sheet.specs.Reading.{digitAfter, RunTo};
+use model::Command;
+use model::Line;
+use model::Value;
+use model::Verdict;
+
+// The first line of a command sheet, its line end included.
+const FIRST_LINE: [u8; 19] = *b"op,a,b,c,d,e,f,g,h\n";
+
+fn no_value() -> Value
+    ensures { λ r. ⌜ r ≡ noValue ⌝ }
+{
+    Value {
+        ok: false,
+        number: 0,
+    }
+}
+
+fn wide(b: u8) -> u64
+    ensures { λ r. ⌜ r ≡ b ⌝ }
+{
+    b as u64
+}
+
+// The number v with one more digit, where the byte is one and the number stays below 2^64.
+fn next_digit(v: u64, b: u8) -> Value
+    ensures { λ r. ⌜ r ≡ digitAfter v b ⌝ }
+{
+    if b < 48 {
+        return no_value();
+    }
+    if 57 < b {
+        return no_value();
+    }
+    let digit = wide(b - 48);
+    if 1844674407370955161 < v {
+        return no_value();
+    }
+    let tens = v * 10;
+    if 18446744073709551615 - tens < digit {
+        return no_value();
+    }
+    Value {
+        ok: true,
+        number: tens + digit,
+    }
+}
+
+// Not empty, and a 0 in front only where it stands alone.
+fn leads_well(s: &[u8]) -> bool
+    ensures { λ r. ⌜ r ≡ leadsWell (now (s .entry)) ⌝ }
+{
+    if s.len() == 0 {
+        return false;
+    }
+    if s.len() == 1 {
+        return true;
+    }
+    s[0] != 48
+}
+
+// One value.
+pub fn read_value(s: &[u8]) -> Value
+    ensures { λ r. ⌜ r ≡ valueOf (now (s .entry)) ⌝ }
+{
+    if leads_well(s) {
+        let mut v: u64 = 0;
+        let mut i = 0;
+        while i < s.len() {
+            let next = next_digit(v, s[i]);
+            if !next.ok {
+                return no_value();
+            }
+            v = next.number;
+            i += 1;
+        }
+        return Value {
+            ok: true,
+            number: v,
+        };
+    }
+    no_value()
+}
+
+// How many bytes stand before the next separator.
+fn run_length(s: &[u8], from: usize, separator: u8) -> usize
+    requires { ⌜ from ≤ length (now s) ⌝ }
+    ensures { λ r. ⌜ RunTo separator from (now (s .entry)) r ⌝ }
+{
+    let mut i = from;
+    while i < s.len() {
+        if s[i] == separator {
+            return i - from;
+        }
+        i += 1;
+    }
+    i - from
+}
+
+// The value line that begins at an index: the caller's bytes up to the next line end.
+pub fn line_at(s: &[u8], from: usize) -> &[u8]
+    requires { ⌜ from ≤ length (now s) ⌝ }
+    ensures { λ r. ⌜ now r ≡ firstPart lineEnd (drop from (now (s .entry))) ⌝ }
+{
+    let n = run_length(s, from, 10);
+    let end = from + n;
+    &s[from..end]
+}
+
+// Nine numbers as a command.
+fn command_of(n: [u64; 9]) -> Command
+    ensures { λ r. ⌜ r ≡ commandOf n ⌝ }
+{
+    Command {
+        op: n[0],
+        a: n[1],
+        b: n[2],
+        c: n[3],
+        d: n[4],
+        e: n[5],
+        f: n[6],
+        g: n[7],
+        h: n[8],
+    }
+}
+
+fn no_line() -> Line
+    ensures { λ r. ⌜ r ≡ noLine ⌝ }
+{
+    Line {
+        ok: false,
+        command: command_of([0u64; 9]),
+    }
+}
+
+// One value line, without its line end: eight values up to a comma each, and the ninth up to the end.
+pub fn read_line(s: &[u8]) -> Line
+    ensures { λ r. ⌜ r ≡ lineOf (now (s .entry)) ⌝ }
+{
+    let mut numbers = [0u64; 9];
+    let mut at = 0;
+    let mut k = 0;
+    while k < 8 {
+        let n = run_length(s, at, 44);
+        let end = at + n;
+        if s.len() <= end {
+            return no_line();
+        }
+        let value = read_value(&s[at..end]);
+        if !value.ok {
+            return no_line();
+        }
+        numbers[k] = value.number;
+        at = end + 1;
+        k += 1;
+    }
+    let last = read_value(&s[at..]);
+    if !last.ok {
+        return no_line();
+    }
+    numbers[8] = last.number;
+    Line {
+        ok: true,
+        command: command_of(numbers),
+    }
+}
+
+// The sheet begins with its first line.
+fn starts_well(s: &[u8]) -> bool
+    ensures { λ r. ⌜ r ≡ startsWith firstLine (now (s .entry)) ⌝ }
+{
+    if s.len() < 19 {
+        return false;
+    }
+    let mut i = 0;
+    while i < 19 {
+        if s[i] != FIRST_LINE[i] {
+            return false;
+        }
+        i += 1;
+    }
+    true
+}
+
+fn refused_at(line: u64, answer: u64) -> Verdict
+    ensures { λ r. ⌜ r ≡ refusedAt line answer ⌝ }
+{
+    Verdict {
+        line: line,
+        answer: answer,
+    }
+}
+
+// The value lines from an index on, the first of them being line 2.
+fn check_body(s: &[u8], from: usize) -> Verdict
+    requires { ⌜ (from ≤ length (now s)) × (length (now s) ≤ 65536) ⌝ }
+    ensures { λ r. ⌜ r ≡ bodyVerdict 2 (parts lineEnd (drop from (now (s .entry)))) ⌝ }
+{
+    let mut at = from;
+    let mut k: u64 = 2;
+    while at < s.len() {
+        let line = line_at(s, at);
+        let end = at + line.len();
+        if s.len() <= end {
+            return refused_at(k, 3);
+        }
+        let read = read_line(line);
+        if !read.ok {
+            return refused_at(k, 3);
+        }
+        at = end + 1;
+        k += 1;
+    }
+    refused_at(0, 0)
+}
+
+// The whole sheet: 1 over 65,536 bytes, 2 another first line, 3 a value line of another form.
+pub fn check_sheet(s: &[u8]) -> Verdict
+    ensures { λ r. ⌜ r ≡ sheetVerdict (now (s .entry)) ⌝ }
+{
+    if 65536 < s.len() {
+        return refused_at(0, 1);
+    }
+    if starts_well(s) {
+        return check_body(s, 19);
+    }
+    refused_at(1, 2)
+}
