@@ -3,9 +3,10 @@
 use Prim.Native.Nat.{ℕ, suc, _+_}
 use mathlib.Core.Path.{_≡_, refl}
 use mathlib.Core.List.{List, [], _∷_, _++_, map}
-use mathlib.Core.Bool.{cond}
+use mathlib.Core.Bool.{Bool, true, false, _&&_, cond, false≢true}
 use lib.ListN.{replicate}
 use lib.Dec.{eqb}
+use borrow.Author.Tests.{eqb-true}
 use Rattle.model.specs.declared.Command.{Command}
 use Rattle.model.specs.declared.Words.{Words}
 use Rattle.model.specs.Words
@@ -20,6 +21,7 @@ use Rattle.model.specs.Checks
 use Rattle.model.specs.Execute
 use Rattle.model.specs.Text
 use Rattle.model.specs.Sheet
+use Rattle.model.proofs.Laws.Tests.{both}
 use Rattle.model.specs.Run.{Entry, engineAfter, engineFrom, history, historyFrom}
 
 -- an example: what a run gives, and what document 01 states
@@ -140,18 +142,49 @@ examples =
     ∷ record { found = verdict Sheet.firstLine; stated = 0 ∷ 0 ∷ [] }
     ∷ []
 
+-- two lists of numbers are compared number by number, so that a list that is not as stated fails at once
+same : List ℕ → List ℕ → Bool
+same [] [] = true
+same [] (n ∷ ns) = false
+same (m ∷ ms) [] = false
+same (m ∷ ms) (n ∷ ns) = eqb m n && same ms ns
+
+same-equal : (ms ns : List ℕ) → same ms ns ≡ true → ms ≡ ns
+unfolding same
+same-equal [] [] h = refl
+same-equal [] (n ∷ ns) h = absurd (false≢true h)
+same-equal (m ∷ ms) [] h = absurd (false≢true h)
+same-equal (m ∷ ms) (n ∷ ns) h =
+    let t = both (eqb m n) (same ms ns) h in
+    rw (eqb-true m n (t .0), same-equal ms ns (t .1))
+
+asStated : List Example → Bool
+asStated [] = true
+asStated (x ∷ xs) = same (x .found) (x .stated) && asStated xs
+
+stated-equal : (xs : List Example) → asStated xs ≡ true
+    → map (λ (x : Example). x .found) xs ≡ map (λ (x : Example). x .stated) xs
+unfolding asStated
+stated-equal [] h = refl
+stated-equal (x ∷ xs) h =
+    let t = both (same (x .found) (x .stated)) (asStated xs) h in
+    rw (same-equal (x .found) (x .stated) (t .0), stated-equal xs (t .1))
+
+examples-tested : asStated examples ≡ true
+unfolding examples asStated same answers lastValues values shownAfter edgeAt edgesFrom engineFrom historyFrom
+    Words.secondsIn Words.nanosecondsIn Words.aboveNanoseconds Words.wholeIn Words.fracIn Words.amountIn
+    Words.belowFrac Words.countIn Words.timeWords Clock.cycleAmount Clock.stepBy Clock.remainderBy Clock.ticked
+    Clock.spent Clock.lastCycle Fifo.timestampNs Fifo.timestampOf Fifo.captured Fifo.capturesFirst Fifo.overflows
+    Fifo.popped Generator.nextInstant Generator.isBefore Generator.isDue Generator.eighthOf Generator.placed
+    Generator.following Generator.generated Generator.completesEvent Generator.completesSequence Interrupts.withBit
+    Interrupts.latch Interrupts.anyBoth Interrupts.interruptWord Interrupts.statusWord Interrupts.onlyBits
+    Record.powerOn Ranges.clockOk Ranges.adjustmentOk Ranges.steeringOk Ranges.timestampOk Ranges.placeOk
+    Ranges.fifoOk Ranges.generatorOk Ranges.interruptsOk Ranges.wordsOk Ranges.valid Fields.fieldTests
+    Fields.fieldsOk Checks.checks Checks.answerOf Execute.tickEvents Execute.tickEngine Execute.tickValues
+    Execute.written Execute.readWords Execute.readEngine Execute.commanded Execute.interruptsRead Execute.statusOf
+    Execute.performed Execute.execute verdict Text.isValue Sheet.isLine Sheet.sheetVerdict
+examples-tested = refl
+
 -- every starred example is as stated
 pub examples-hold : map (λ (x : Example). x .found) examples ≡ map (λ (x : Example). x .stated) examples
-unfolding examples answers lastValues values shownAfter edgeAt edgesFrom engineFrom historyFrom Words.secondsIn
-    Words.nanosecondsIn Words.aboveNanoseconds Words.wholeIn Words.fracIn Words.amountIn Words.belowFrac
-    Words.countIn Words.timeWords Clock.cycleAmount Clock.stepBy Clock.remainderBy Clock.ticked Clock.spent
-    Clock.lastCycle Fifo.timestampNs Fifo.timestampOf Fifo.captured Fifo.capturesFirst Fifo.overflows Fifo.popped
-    Generator.nextInstant Generator.isBefore Generator.isDue Generator.eighthOf Generator.placed Generator.following
-    Generator.generated Generator.completesEvent Generator.completesSequence Interrupts.withBit Interrupts.latch
-    Interrupts.anyBoth Interrupts.interruptWord Interrupts.statusWord Interrupts.onlyBits Record.powerOn
-    Ranges.clockOk Ranges.adjustmentOk Ranges.steeringOk Ranges.timestampOk Ranges.placeOk Ranges.fifoOk
-    Ranges.generatorOk Ranges.interruptsOk Ranges.wordsOk Ranges.valid Fields.fieldTests Fields.fieldsOk
-    Checks.checks Checks.answerOf Execute.tickEvents Execute.tickEngine Execute.tickValues Execute.written
-    Execute.readWords Execute.readEngine Execute.commanded Execute.interruptsRead Execute.statusOf Execute.performed
-    Execute.execute verdict Text.isValue Sheet.isLine Sheet.sheetVerdict
-examples-hold = refl
+examples-hold = stated-equal examples examples-tested

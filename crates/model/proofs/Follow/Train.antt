@@ -93,7 +93,8 @@ stands-ahead {d = d} now (expired r l p) ok near more =
     omega arith
 
 -- the invariant of a generator whose order stands
-pub record Standing (start interval : Fraction) (count : ℕ) (edges : List Edge) (g : Generator) (now : ℕ) : Type 0 where
+pub record Standing (start interval : Fraction) (count : ℕ) (edges : List Edge) (g : Generator) (now : ℕ)
+    : Type 0 where
   pub s : ℕ
   pub i : ℕ
   pub d : ℕ
