@@ -1,5 +1,6 @@
--- The starred examples of document 01, "Edges of the rules", as one list proved by one statement. Each holds because
--- the definitions compute: a run from power-on gives the numbers that the document states.
+-- The starred examples of document 01, "Edges of the rules", as one list proved by one statement; the whole example of
+-- "Command sheet" stands at its end. Each holds because the definitions compute: a run from power-on gives the numbers
+-- that the document states.
 use Prim.Native.Nat.{ℕ, suc, _+_}
 use mathlib.Core.Path.{_≡_, refl}
 use mathlib.Core.List.{List, [], _∷_, _++_, map}
@@ -20,7 +21,9 @@ use Rattle.model.specs.Fields
 use Rattle.model.specs.Checks
 use Rattle.model.specs.Execute
 use Rattle.model.specs.Text
+use Rattle.model.specs.Text.{bytes}
 use Rattle.model.specs.Sheet
+use Rattle.model.specs.Results
 use Rattle.model.proofs.Laws.Tests.{both}
 use Rattle.model.specs.Run.{Entry, engineAfter, engineFrom, history, historyFrom}
 
@@ -139,7 +142,24 @@ examples =
     }
     -- Empty sheet: 2. First line alone: accepted.
     ∷ record { found = verdict []; stated = 1 ∷ 2 ∷ [] }
-    ∷ record { found = verdict Sheet.firstLine; stated = 0 ∷ 0 ∷ [] }
+    ∷ record { found = verdict (bytes "op,a,b,c,d,e,f,g,h\n"); stated = 0 ∷ 0 ∷ [] }
+    -- Not starred: the whole example, byte for byte; lines behind a refused one; a sheet refused at its third line.
+    ∷ record {
+      found = Results.results (bytes
+          "op,a,b,c,d,e,f,g,h\n3,1,0,3,256,1,3,4,0\n0,16,0,0,0,0,0,0,0\n2,16,1,0,0,0,0,0,0\n5,0,0,0,0,0,0,0,0\n");
+      stated = bytes
+          "line,answer,v1,v2,v3,v4,v5\n2,0,0,0,0,0,0\n3,0,12,0,0,0,0\n4,0,0,0,0,7,32768\n5,0,256,0,0,0,0\n";
+    }
+    ∷ record {
+      found = Results.results (bytes
+          "op,a,b,c,d,e,f,g,h\n1,7,7,7,7,7,0,0,0\n2,1,0,0,0,0,0,0,0\n0,0,0,0,0,0,0,0,0\n2,16,0,0,0,0,0,0,0\n");
+      stated = bytes
+          "line,answer,v1,v2,v3,v4,v5\n2,0,0,0,0,0,0\n3,9,0,0,0,0,0\n4,0,0,0,0,0,0\n5,0,0,0,0,8,0\n";
+    }
+    ∷ record {
+      found = Results.results (bytes "op,a,b,c,d,e,f,g,h\n0,0,0,0,0,0,0,0,0\n0,01,0,0,0,0,0,0,0\n");
+      stated = bytes "line,answer,v1,v2,v3,v4,v5\n3,3,0,0,0,0,0\n";
+    }
     ∷ []
 
 -- two lists of numbers are compared number by number, so that a list that is not as stated fails at once
@@ -182,7 +202,8 @@ unfolding examples asStated same answers lastValues values shownAfter edgeAt edg
     Ranges.fifoOk Ranges.generatorOk Ranges.interruptsOk Ranges.wordsOk Ranges.valid Fields.fieldTests
     Fields.fieldsOk Checks.checks Checks.answerOf Execute.tickEvents Execute.tickEngine Execute.tickValues
     Execute.written Execute.readWords Execute.readEngine Execute.commanded Execute.interruptsRead Execute.statusOf
-    Execute.performed Execute.execute verdict Text.isValue Sheet.isLine Sheet.sheetVerdict
+    Execute.performed Execute.execute verdict Text.isValue Sheet.isLine Sheet.sheetVerdict Sheet.commandsIn
+    Text.decimal Results.results
 examples-tested = refl
 
 -- every starred example is as stated

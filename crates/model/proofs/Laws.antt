@@ -20,3 +20,11 @@ pub mod Outcomes
 -- fractions, and the lag of an edge
 pub mod Fractions
 pub mod Lag
+-- the command sheet: what is written is read, and what is read is what would be written; numbers, lines, sheets
+pub mod Decimal
+pub mod Values
+pub mod Lines
+pub mod Sheets
+-- its results: the values of an outcome are words, and the results of every sheet fit into the room for them
+pub mod ResultValues
+pub mod Results

@@ -18,9 +18,10 @@ pub mod Fields
 pub mod Checks
 pub mod Execute
 pub mod Run
--- the command sheet: text, and the sheet's own checks (numbers 1 to 3)
+-- the command sheet: text, the sheet's own checks (numbers 1 to 3) and its commands, and what its run prints
 pub mod Text
 pub mod Sheet
+pub mod Results
 -- the other side of demand 3: exact fractions, the ledger, the returned edges, and what is asked of them
 pub mod Fractions
 pub mod Ledger

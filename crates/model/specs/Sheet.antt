@@ -1,19 +1,19 @@
--- The command sheet: its first line, its value lines, and the answer to the sheet as a whole. Document 01, "Command
--- sheet" and "Where each command is checked", numbers 1 to 3.
-use Prim.Native.Nat.{ℕ, _+_}
-use mathlib.Core.List.{List, [], _∷_, map}
+-- The command sheet: its first line, its value lines, the answer to the sheet as a whole, its commands, and the sheet
+-- of a list of commands. Document 01, "Command sheet" and "Where each command is checked", numbers 1 to 3.
+use Prim.Native.Nat.{ℕ, _+_, _^_}
+use mathlib.Core.List.{List, [], _∷_, _++_, map}
 use mathlib.Core.Bool.{Bool, true, false, _&&_, cond}
 use lib.Dec.{eqb, ltb}
 use lib.ListN.{length, getD, drop}
 use Rattle.model.specs.declared.Command.{Command}
 use Rattle.model.specs.declared.Line.{Line}
 use Rattle.model.specs.declared.Verdict.{Verdict}
-use Rattle.model.specs.Text.{comma, lineEnd, isValue, numberAfter, parts}
+use Rattle.model.specs.Tests.{every}
+use Rattle.model.specs.Text.{bytes, comma, lineEnd, isValue, numberAfter, parts, row}
 
 -- `op,a,b,c,d,e,f,g,h` and its line end
 abbrev pub firstLine : List ℕ
-firstLine =
-    111 ∷ 112 ∷ 44 ∷ 97 ∷ 44 ∷ 98 ∷ 44 ∷ 99 ∷ 44 ∷ 100 ∷ 44 ∷ 101 ∷ 44 ∷ 102 ∷ 44 ∷ 103 ∷ 44 ∷ 104 ∷ 10 ∷ []
+firstLine = bytes "op,a,b,c,d,e,f,g,h\n"
 
 abbrev pub startsWith : List ℕ → List ℕ → Bool
 startsWith [] s = true
@@ -65,10 +65,39 @@ bodyVerdict k [] = sheetAccepted
 bodyVerdict k (l ∷ []) = cond (eqb (length l) 0) sheetAccepted (refusedAt k 3)
 bodyVerdict k (l ∷ m ∷ ls) = cond (isLine l) (bodyVerdict (k + 1) (m ∷ ls)) (refusedAt k 3)
 
--- 1 over 65,536 bytes (line 0); 2 first line differs (line 1); 3 first value line of another form (its line)
+-- 1 over 65,536 bytes (line 0); 2 first line, of 19 bytes, differs (line 1); 3 first value line of another form (its
+-- line)
 unfoldable pub sheetVerdict : List ℕ → Verdict
 sheetVerdict s =
     cond (ltb 65536 (length s)) (refusedAt 0 1)
     (cond (startsWith firstLine s)
     (bodyVerdict 2 (parts lineEnd (drop 19 s)))
     (refusedAt 1 2))
+
+-- the commands of the value lines; what stands behind the last line end is none
+abbrev pub commandsOf : List (List ℕ) → List Command
+commandsOf [] = []
+commandsOf (l ∷ []) = []
+commandsOf (l ∷ m ∷ ls) = commandIn l ∷ commandsOf (m ∷ ls)
+
+-- the commands of an accepted sheet
+unfoldable pub commandsIn : List ℕ → List Command
+commandsIn s = commandsOf (parts lineEnd (drop 19 s))
+
+-- a command as nine numbers
+abbrev pub fieldsOf : Command → List ℕ
+fieldsOf c = c .op ∷ c .a ∷ c .b ∷ c .c ∷ c .d ∷ c .e ∷ c .f ∷ c .g ∷ c .h ∷ []
+
+-- the value lines of a list of commands
+abbrev pub linesText : List Command → List ℕ
+linesText [] = []
+linesText (c ∷ cs) = row (fieldsOf c) ++ linesText cs
+
+-- the sheet of a list of commands
+unfoldable pub sheetText : List Command → List ℕ
+sheetText cs = firstLine ++ linesText cs
+
+-- every field is below 2^64, as in every command of a sheet
+abbrev pub fieldsFit : List Command → Bool
+fieldsFit [] = true
+fieldsFit (c ∷ cs) = every (map (λ n. ltb n (2 ^ 64)) (fieldsOf c)) && fieldsFit cs

@@ -1,10 +1,19 @@
--- Text as a list of bytes: digits, values, and the parts between separators. Document 01, "Command sheet".
-use Prim.Native.Nat.{ℕ, _+_, _*_, _-_, _^_}
-use mathlib.Core.List.{List, [], _∷_}
+-- Text as a list of bytes: digits, values, the parts between separators, and numbers written in decimal. Document 01,
+-- "Command sheet".
+use Prim.Native.Char.{code}
+use Prim.Native.String as String
+use Prim.Native.String.{String}
+use Prim.Native.Nat.{ℕ, zero, suc, _+_, _*_, _-_, _/_, _%_, _^_}
+use mathlib.Core.List.{List, [], _∷_, _++_}
 use mathlib.Core.Bool.{Bool, true, false, _&&_, not, cond}
 use lib.Dec.{eqb, leb, ltb}
 use lib.ListN.{getD}
 use Rattle.model.specs.declared.Value.{Value}
+
+-- a quoted text as its bytes
+abbrev pub bytes : String → List ℕ
+bytes String.[] = []
+bytes (String._∷_ c s) = code c ∷ bytes s
 
 -- 0x2C stands between values, 0x0A ends a line
 abbrev pub comma : ℕ
@@ -57,3 +66,26 @@ parts separator (b ∷ bs) = intoParts (eqb b separator) b (parts separator bs)
 -- the text before the first separator
 abbrev pub firstPart : ℕ → List ℕ → List ℕ
 firstPart separator bs = getD (parts separator bs) 0 []
+
+-- the decimal digits of a number that has at most so many of them
+abbrev pub digitsOf : ℕ → ℕ → List ℕ
+digitsOf zero n = []
+digitsOf (suc room) n = cond (ltb n 10) ((48 + n) ∷ []) (digitsOf room (n / 10) ++ ((48 + n % 10) ∷ []))
+
+-- a number in decimal; below 2^64 it has at most 20 digits
+unfoldable pub decimal : ℕ → List ℕ
+decimal n = digitsOf 20 n
+
+-- numbers in decimal, each with a comma before it
+abbrev pub furtherNumbers : List ℕ → List ℕ
+furtherNumbers [] = []
+furtherNumbers (n ∷ ns) = comma ∷ (decimal n ++ furtherNumbers ns)
+
+-- numbers in decimal, with commas between them
+abbrev pub numbers : List ℕ → List ℕ
+numbers [] = []
+numbers (n ∷ ns) = decimal n ++ furtherNumbers ns
+
+-- a line of numbers, its line end included
+abbrev pub row : List ℕ → List ℕ
+row ns = numbers ns ++ (lineEnd ∷ [])

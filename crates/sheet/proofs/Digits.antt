@@ -12,6 +12,7 @@ use lib.Seq.{drop-cons}
 use borrow.Author.Tests.{le-ltb, ltb-false, ne-eqb}
 use Rattle.model.specs.declared.Value.{Value}
 use Rattle.model.specs.Text.{isDigit, allDigits, numberAfter, leadsWell, noValue}
+use Rattle.model.proofs.Laws.Values.{number-grows}
 use Rattle.sheet.specs.Reading.{digitAfter}
 
 abbrev valueIf : Bool → ℕ → Value
@@ -21,10 +22,6 @@ valueIf test n = cond test (record { ok = true; number = n }) noValue
 abbrev pub readAfter : ℕ → List ℕ → Value
 readAfter v bs = valueIf (allDigits bs && ltb (numberAfter v bs) (2 ^ 64)) (numberAfter v bs)
 
-grows : (v : ℕ) (bs : List ℕ) → v ≤ numberAfter v bs
-grows v [] = omega arith
-grows v (b ∷ bs) = omega (arith, grows (v * 10 + (b - 48)) bs)
-
 -- n is the number after the next digit
 read-step : (n : ℕ) (bs : List ℕ) (next : Value) (digit fits : Bool) → ltb n (2 ^ 64) ≡ fits
     → next ≡ valueIf (digit && fits) n
@@ -33,7 +30,7 @@ read-step : (n : ℕ) (bs : List ℕ) (next : Value) (digit fits : Bool) → ltb
 read-step n bs next false fits h e = rw e
 read-step n bs next true true h e = rw e
 read-step n bs next true false h e =
-    rw (e, le-ltb (numberAfter n bs) (2 ^ 64) (omega (arith, ltb-false, grows n bs)), and-false)
+    rw (e, le-ltb (numberAfter n bs) (2 ^ 64) (omega (arith, ltb-false, number-grows n bs)), and-false)
 
 -- what all the bytes make, the next number makes with those that are left
 pub read-turn : {whole : Value} {ok : Bool} (s : List ℕ) (i v : ℕ) (next : Value) → i < length s

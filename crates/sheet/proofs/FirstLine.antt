@@ -1,15 +1,15 @@
 -- A text is compared with its head byte by byte, and one that is shorter than the head runs out first.
-use mathlib.Core.Path.{_≡_, refl}
-use mathlib.Core.List.{List, [], _∷_}
-use mathlib.Core.Bool.{Bool, true, false, _&&_, false≢true}
+use mathlib.Core.Path.{_≡_, refl, ap, _∙_}
+use mathlib.Core.List.{List}
+use mathlib.Core.Bool.{Bool, true, false, _&&_}
 use Prim.Native.Nat.{ℕ, _+_, _≤_, _<_}
 use native.Mathlib.Numerals.{add-one}
 use native.Mathlib.Omega.{arith}
 use lib.Dec.{eqb}
-use lib.ListN.{length, getD, drop}
+use lib.ListN.{length, getD, drop, length-append}
 use lib.Seq.{drop-cons}
 use Rattle.model.specs.Sheet.{startsWith}
-use Rattle.model.proofs.Laws.Tests.{both}
+use Rattle.model.proofs.Laws.Sheets.{starts-in}
 
 -- what all the bytes say, the test of one says with those that are left
 pub starts-turn : {whole same : Bool} (h s : List ℕ) (i : ℕ) → i < length h → length h ≤ length s
@@ -22,9 +22,7 @@ starts-turn h s i k l e here =
 
 -- a text has the length of what it starts with
 pub starts-length : (h s : List ℕ) → startsWith h s ≡ true → length h ≤ length s
-starts-length [] s e = omega arith
-starts-length (b ∷ h) [] e = absurd (false≢true e)
-starts-length (b ∷ h) (d ∷ s) e = omega (arith, starts-length h s (both (eqb d b) (startsWith h s) e .1))
+starts-length h s e = omega (arith, ap length (starts-in h s e) ∙ length-append h (drop (length h) s))
 
 pub starts-short : (h s : List ℕ) → length s < length h → startsWith h s ≡ false
 starts-short h s l = go (startsWith h s) refl

@@ -16,9 +16,10 @@ use Rattle.model.specs.declared.Line.{Line}
 use Rattle.model.specs.declared.Value.{Value}
 use Rattle.model.specs.Text.{comma, numberAfter, valueOf, parts, firstPart}
 use Rattle.model.specs.Sheet.{allValues, isLine, commandOf, noLine, lineOf}
+use Rattle.model.proofs.Laws.Lines.{value-one-part}
 use Rattle.sheet.specs.Reading.{RunTo}
 use Rattle.sheet.proofs.Parts.{parts-some, one-part, more-parts, first-is, parts-last, parts-more}
-use Rattle.sheet.proofs.Values.{value-test, value-number, value-one-part}
+use Rattle.sheet.proofs.Values.{value-test, value-number}
 
 -- the line whose first k numbers are those of ns, and whose other parts are ps
 unfoldable pub lineWith : ℕ → List ℕ → List (List ℕ) → Line

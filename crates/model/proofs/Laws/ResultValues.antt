@@ -1,0 +1,102 @@
+-- The values of an outcome are 16-bit words. A tick returns codes of at most 16, a read the words that it leaves in
+-- the record, which is valid again, op 8 the record's words, and the interrupt and status words have bits below 15;
+-- every other value is 0. An answer is the number of a check, at most 15.
+use Prim.Native.Nat.{ℕ, _+_, _*_, _<_, _≤_}
+use mathlib.Core.Path.{_≡_}
+use mathlib.Core.Bool.{true}
+use native.Mathlib.Omega.{arith}
+use native.Mathlib.Decide.{ℕ-discrete}
+use lib.Dec.{eqb}
+use borrow.Author.Tests.{ltb-true}
+use Rattle.model.specs.declared.Engine.{Engine}
+use Rattle.model.specs.declared.Command.{Command}
+use Rattle.model.specs.declared.Outcome.{Outcome}
+use Rattle.model.specs.declared.Generator.{Generator}
+use Rattle.model.specs.Words.{noWords}
+use Rattle.model.specs.Edges.{edgeCode}
+use Rattle.model.specs.Generator.{placed, isDue, isRunning, isBefore, eighthOf, pendingTotal}
+use Rattle.model.specs.Ranges.{valid, generatorOk}
+use Rattle.model.specs.Bounds.{WordsIn}
+use Rattle.model.specs.Checks.{tickStep}
+use Rattle.model.specs.Execute
+use Rattle.model.proofs.Laws.Tests.{split, both}
+use Rattle.model.proofs.Laws.Ranges.{Valid, valid-parts, running-in, words-in}
+use Rattle.model.proofs.Laws.Checks.{Accepted, by-answer, by-op}
+use Rattle.model.proofs.Laws.Interrupts.{interrupts-read, status-read}
+use Rattle.model.proofs.Laws.Lag.{eighth-few}
+use Rattle.model.proofs.Laws.Valid.{tick-step-bounds, performed-valid}
+use Rattle.model.proofs.Laws.Outcomes.{answer-bounds}
+
+code-low : (direction eighth : ℕ) → eighth < 8 → edgeCode direction eighth ≤ 16
+code-low direction eighth h =
+    split (λ (x : ℕ). x ≤ 16) (eqb direction 0) (λ z. omega arith) (λ z. omega arith)
+
+-- the pending instant of a due generator lies in one of the step's eighths
+due-eighth : (g : Generator) (a s : ℕ) → 0 < s → generatorOk g a ≡ true → isDue g a s ≡ true → eighthOf g a s < 8
+unfolding isDue isBefore eighthOf
+due-eighth g a s some ok due =
+    let d = both (isRunning g) (isBefore g (a + s)) due in
+    let r = running-in g a ok (d .0) in
+    let some-parts : 0 < g .denominator = omega (arith, r .remainder) in
+    eighth-few (pendingTotal g) a s 0 0 (s * 16777216) (g .denominator) some-parts some (omega arith) (r .ahead)
+    (ltb-true _ _ (d .1))
+
+placed-low : (g : Generator) (a s : ℕ) → 0 < s → generatorOk g a ≡ true → placed g a s ≤ 16
+unfolding placed
+placed-low g a s some ok =
+    split (λ (x : ℕ). x ≤ 16) (isDue g a s)
+    (λ due. code-low (g .direction) _ (due-eighth g a s some ok due))
+    (λ z. omega arith)
+
+pub no-words-in : WordsIn noWords
+no-words-in = omega arith
+
+tick-values-in : (e : Engine) → Valid e → WordsIn (Execute.tickValues e)
+unfolding Execute.tickValues
+tick-values-in e v =
+    let some : 0 < tickStep e = omega (arith, tick-step-bounds e v .0) in
+    let p = placed-low (e .generator1) _ _ some (v .generator1) in
+    let q = placed-low (e .generator2) _ _ some (v .generator2) in
+    omega arith
+
+-- the values of a read are the words of the record after it
+commanded-values-in : (e : Engine) (write read : ℕ) → Valid (Execute.commanded e write read .engine)
+    → WordsIn (Execute.commanded e write read .values)
+unfolding Execute.commanded Execute.readEngine
+commanded-values-in e write read =
+    split (λ (x : Outcome). Valid (x .engine) → WordsIn (x .values)) (eqb read 8)
+    (λ y v. no-words-in)
+    (λ y v. words-in _ (v .words))
+
+interrupt-values-in : (e : Engine) → valid e ≡ true → WordsIn (Execute.interruptsRead e .values)
+unfolding Execute.interruptsRead
+interrupt-values-in e h = let low = interrupts-read e h .others in omega arith
+
+performed-values-in : (e : Engine) (c : Command) → Accepted e c → WordsIn (Execute.performed e c .values)
+performed-values-in e c k =
+    let v = valid-parts e (k .valid) in
+    by-op (λ (x : Outcome). Valid (x .engine) → WordsIn (x .values)) e c (k .op)
+    (record {
+      tick = λ o w. tick-values-in e v;
+      load = λ o w. no-words-in;
+      command = λ o w. commanded-values-in e (c .a) (c .b) w;
+      arm = λ o w. no-words-in;
+      stop = λ o w. no-words-in;
+      interrupts = λ o w. interrupt-values-in e (k .valid);
+      mask = λ o w. no-words-in;
+      status = λ o w. let low = status-read e .above in omega arith;
+      show = λ o w. words-in (e .words) (v .words);
+    })
+    (performed-valid e c k)
+
+-- on every record, since one that is not valid is refused
+pub values-in : (e : Engine) (c : Command) → WordsIn (Execute.execute e c .values)
+values-in e c =
+    by-answer (λ (x : Outcome). WordsIn (x .values)) e c (λ n. no-words-in) (λ k. performed-values-in e c k)
+
+pub answer-small : (e : Engine) (c : Command) → Execute.execute e c .answer ≤ 15
+answer-small e c =
+    elim (ℕ-discrete (Execute.execute e c .answer) 0) [
+      | yes z ↦ omega arith
+      | no n ↦ answer-bounds e c n .1
+    ]
