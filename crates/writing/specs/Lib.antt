@@ -1,0 +1,2 @@
+-- What a writer leaves in a buffer.
+pub mod Written
