@@ -1,0 +1,127 @@
+-- While the rest of an accepted sheet is not empty it begins with a whole value line. So each turn writes the line of
+-- the next command, and leaves the lines of the others to be written.
+use Prim.Native.Nat.{ℕ, _+_, _≤_, _<_}
+use mathlib.Core.Path.{_≡_, refl, sym, ap, _∙_}
+use mathlib.Core.Bool.{Bool, true, false, cond, false≢true}
+use mathlib.Core.List.{List, [], _∷_, _++_}
+use native.Mathlib.Decide.{decLt}
+use native.Mathlib.Omega.{arith}
+use lib.ListN.{length, drop, drop-of-length-le}
+use Rattle.model.specs.declared.Command.{Command}
+use Rattle.model.specs.declared.Engine.{Engine}
+use Rattle.model.specs.declared.Line.{Line}
+use Rattle.model.specs.declared.Outcome.{Outcome}
+use Rattle.model.specs.Ranges.{valid}
+use Rattle.model.specs.Record.{powerOn}
+use Rattle.model.specs.Execute.{execute}
+use Rattle.model.specs.Run.{historyFrom}
+use Rattle.model.specs.Text.{lineEnd, parts, firstPart}
+use Rattle.model.specs.Sheet.{isLine, commandIn, noLine, lineOf, refusedAt, sheetAccepted, bodyVerdict, sheetVerdict}
+use Rattle.model.specs.Sheet.{commandsOf, commandsIn}
+use Rattle.model.specs.Results.{resultLine, resultLines, commandResults}
+use Rattle.model.proofs.Laws.Sheets.{passed, accepted-in, commands-few}
+use Rattle.model.proofs.Laws.Valid.{power-on-valid}
+use Rattle.engine.specs.Stepped.{Stepped}
+use Rattle.sheet.proofs.Parts.{parts-some, parts-more}
+use Rattle.sheet.proofs.Body.{body-line, body-cut}
+use Rattle.writing.specs.Written.{Written}
+use Rattle.writing.proofs.Puts.{Rest, rest-whole, rest-room, rest-less, rest-none}
+
+-- the results of the commands from an index of the sheet on, the first of which stands in line k
+abbrev resultsFrom : Engine → ℕ → List ℕ → List ℕ
+resultsFrom e k s = resultLines k (historyFrom e (commandsOf (parts lineEnd s)))
+
+-- between two turns: the lines up to an index have been run, and their results stand in the buffer
+pub record RunTo (s before : List ℕ) (from : ℕ) (after : List ℕ) (e : Engine) (k at end : ℕ) : Type 0 where
+  pub within : at ≤ length s
+  pub short : length s ≤ 65536
+  pub numbered : k ≤ at + 2
+  pub is-valid : valid e ≡ true
+  pub accepted : bodyVerdict k (parts lineEnd (drop at s)) ≡ sheetAccepted
+  pub rest : Rest before after from (commandResults s) end (resultsFrom e k (drop at s))
+
+pub run-start : (s out : List ℕ) (from : ℕ) (e : Engine) → sheetVerdict s ≡ sheetAccepted
+    → from + length (commandResults s) ≤ length out
+    → e ≡ powerOn
+    → RunTo s out from out e 2 19 from
+unfolding commandsIn
+run-start s out from e h room on =
+    let body = accepted-in s h in record {
+      within = omega (arith, commands-few s h);
+      short = body .0;
+      numbered = omega arith;
+      is-valid = rw on power-on-valid;
+      accepted = body .2;
+      rest = rw on (rest-whole room);
+    }
+
+commands-first : (l : List ℕ) (ps : List (List ℕ)) → 0 < length ps → commandsOf (l ∷ ps) ≡ commandIn l ∷ commandsOf ps
+commands-first l [] h = absurd (omega arith)
+commands-first l (p ∷ ps) h = refl
+
+read-command : (t : Bool) (c : Command) (r : Line) → r ≡ cond t (record { ok = true; command = c }) noLine
+    → r .ok ≡ true
+    → r .command ≡ c
+read-command true c r e h = ap (λ x. x .command) e
+read-command false c r e h = absurd (false≢true (sym (ap (λ x. x .ok) e) ∙ h))
+
+-- a turn: the line at an index, what is read of it, and its command's outcome
+module _ {s before after : List ℕ} {from : ℕ} {e : Engine} {k at end : ℕ} (run : RunTo s before from after e k at end)
+    (some : at < length s) (l : List ℕ) (is : l ≡ firstPart lineEnd (drop at s)) where
+  pub whole-line : at + length l < length s
+  whole-line =
+      elim (decLt (at + length l) (length s)) [
+        | yes h ↦ h
+        | no h ↦
+            let cut = body-cut s at k l is some (omega arith) in
+            absurd (omega (arith, ap (λ v. v .answer) (sym cut ∙ run .accepted)))
+      ]
+
+  module _ (r : Line) (read : r ≡ lineOf l) where
+    tested : (r .ok ≡ true) × (bodyVerdict (k + 1) (parts lineEnd (drop (at + length l + 1) s)) ≡ sheetAccepted)
+    tested =
+        passed (r .ok) _ (refusedAt k 3) (omega arith)
+        (sym (body-line s at k l is whole-line r read (r .ok) refl) ∙ run .accepted)
+
+    commands-here : commandsOf (parts lineEnd (drop at s))
+        ≡ r .command ∷ commandsOf (parts lineEnd (drop (at + length l + 1) s))
+    unfolding lineOf
+    commands-here =
+        let behind = drop (at + length l + 1) s in
+        rw (
+          read-command (isLine l) (commandIn l) r read (tested .0),
+          parts-more lineEnd s at (length l) (ap length is) whole-line,
+          ← is,
+        )
+        (commands-first l (parts lineEnd behind) (parts-some lineEnd behind))
+
+    module _ (o : Outcome) (stepped : Stepped e (r .command) o) where
+      abbrev resultHere : List ℕ
+      resultHere = resultLine k (o .answer) (o .values)
+
+      abbrev resultsBehind : List ℕ
+      resultsBehind = resultsFrom (o .engine) (k + 1) (drop (at + length l + 1) s)
+
+      results-here : resultsFrom e k (drop at s) ≡ resultHere ++ resultsBehind
+      unfolding historyFrom
+      results-here = rw (commands-here, stepped .is)
+
+      pub line-room : end + length resultHere ≤ length after
+      line-room = rest-room resultHere resultsBehind (run .rest) results-here
+
+      pub run-on : {out : List ℕ} {next : ℕ} → Written after out end resultHere next
+          → RunTo s before from out (o .engine) (k + 1) (at + length l + 1) next
+      run-on written = record {
+        within = omega (arith, whole-line);
+        short = run .short;
+        numbered = omega (arith, run .numbered);
+        is-valid = stepped .keeps;
+        accepted = tested .1;
+        rest = rest-less (run .rest) results-here written;
+      }
+
+pub run-end : {s before after : List ℕ} {from : ℕ} {e : Engine} {k at end : ℕ} → RunTo s before from after e k at end
+    → length s ≤ at
+    → Written before after from (commandResults s) end
+unfolding historyFrom
+run-end {s} run over = rest-none (rw (drop-of-length-le s over) at (run .rest))

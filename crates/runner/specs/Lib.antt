@@ -1,0 +1,2 @@
+-- What the run of a sheet leaves in the buffer.
+pub mod Ran
