@@ -1,0 +1,227 @@
+// Runs every sheet of data/ through the runner and prints its results under its name, then a command on records that
+// no sheet reaches. The stored output was not made by this program: WORKED_OUT.md says how it was.
+use model::Command;
+use model::Engine;
+use model::Generator;
+use model::Instant;
+
+// One sheet of data/.
+fn run(name: &[u8]) {
+    io::write_all(1, name);
+    io::write_all(1, b":\n");
+    let fd = os::open_read(name);
+    if fd < 0 {
+        os::fail(name);
+        return;
+    }
+    streams::run(fd, 1);
+    libc::close(fd);
+}
+
+// The edges of the rules.
+fn edges() {
+    run(b"edge_W_255_and_256.csv");
+    run(b"edge_adjust_one_cycle.csv");
+    run(b"edge_frac_half_of_a_256th.csv");
+    run(b"edge_fresh_one_tick.csv");
+    run(b"edge_generator_of_thirds.csv");
+    run(b"edge_ninth_timestamp.csv");
+    run(b"edge_start_at_the_time_shown.csv");
+    run(b"edge_timestamp_in_the_next_second.csv");
+}
+
+// Document 01's whole example.
+fn example() {
+    run(b"example_whole.csv");
+}
+
+// Value lines of another form, number 3.
+fn lines() {
+    run(b"line_21_digits.csv");
+    run(b"line_2_to_64.csv");
+    run(b"line_base_16.csv");
+    run(b"line_carriage_return.csv");
+    run(b"line_comma_at_the_end.csv");
+    run(b"line_eight_values.csv");
+    run(b"line_empty_line.csv");
+    run(b"line_empty_value.csv");
+    run(b"line_first_of_two.csv");
+    run(b"line_high_byte.csv");
+    run(b"line_last_empty.csv");
+    run(b"line_leading_zero.csv");
+    run(b"line_minus.csv");
+    run(b"line_sign.csv");
+    run(b"line_space.csv");
+    run(b"line_ten_values.csv");
+    run(b"line_unended_line.csv");
+    run(b"line_zero_byte.csv");
+}
+
+// The numbers of the table, each with what is just allowed.
+fn numbers() {
+    run(b"number_05.csv");
+    run(b"number_06_arm.csv");
+    run(b"number_06_command.csv");
+    run(b"number_06_load.csv");
+    run(b"number_06_others.csv");
+    run(b"number_06_tick.csv");
+    run(b"number_07.csv");
+    run(b"number_08.csv");
+    run(b"number_09.csv");
+    run(b"number_10.csv");
+    run(b"number_11.csv");
+    run(b"number_12.csv");
+    run(b"number_13.csv");
+    run(b"number_14.csv");
+    run(b"number_15.csv");
+    run(b"number_order.csv");
+}
+
+// Runs that the papers single out.
+fn runs() {
+    run(b"run_TIME_write_stops_both.csv");
+    run(b"run_adjustment_across_a_PERIOD_write.csv");
+    run(b"run_adjustment_over_a_TIME_write.csv");
+    run(b"run_both_generators_three_inputs.csv");
+    run(b"run_mask_and_bit_14.csv");
+    run(b"run_refusals_change_nothing.csv");
+    run(b"run_remainder_over_a_PERIOD_write.csv");
+    run(b"run_slowest_and_fastest_PERIOD.csv");
+    run(b"run_steering_between_two_edges.csv");
+    run(b"run_stop_and_arm_again.csv");
+    run(b"run_tick_in_the_last_second.csv");
+    run(b"run_trains_meet_the_end.csv");
+    run(b"run_words_of_a_read.csv");
+}
+
+// The sheet as a whole: number 2, and what is just allowed.
+fn sheets() {
+    run(b"sheet_empty.csv");
+    run(b"sheet_first_line_alone.csv");
+    run(b"sheet_first_line_differs.csv");
+    run(b"sheet_first_line_unended.csv");
+    run(b"sheet_first_line_with_carriage_return.csv");
+    run(b"sheet_largest_value.csv");
+}
+
+// 65,536 bytes, and one more: number 1.
+fn sizes() {
+    run(b"size_65536_bytes.csv");
+    run(b"size_65537_bytes.csv");
+}
+
+fn print_field(n: u64) {
+    io::write_all(1, b",");
+    io::print_decimal(1, n);
+}
+
+// A tick on a record: its answer and its five values.
+fn tick(name: &[u8], e: Engine) {
+    io::write_all(1, name);
+    io::write_all(1, b":\n");
+    let c = Command {
+        op: 0,
+        a: 0,
+        b: 0,
+        c: 0,
+        d: 0,
+        e: 0,
+        f: 0,
+        g: 0,
+        h: 0,
+    };
+    let o = engine::execute(e, c);
+    let v = o.values;
+    io::print_decimal(1, o.answer);
+    print_field(v.w1);
+    print_field(v.w2);
+    print_field(v.w3);
+    print_field(v.w4);
+    print_field(v.w5);
+    io::write_all(1, b"\n");
+}
+
+// Number 4: numbers of the clock, the steering, the words and the interrupts outside their ranges, after a record that
+// has none.
+fn malformed_numbers() {
+    let on = engine::power_on();
+    tick(b"record_of_power_on", on);
+    let mut e = on;
+    e.clock.nanoseconds = 1000000000;
+    tick(b"record_with_10_to_9_ns", e);
+    e = on;
+    e.clock.remainder = 16777216;
+    tick(b"record_with_a_remainder_of_2_to_24", e);
+    e = on;
+    e.steering.period = 4294967295;
+    tick(b"record_with_a_PERIOD_below_1_ns", e);
+    e = on;
+    e.steering.period = 1099511627776;
+    tick(b"record_with_a_PERIOD_of_41_bits", e);
+    e = on;
+    e.steering.adjustment.amount = 34359738368;
+    tick(b"record_with_an_idle_adjustment_not_zero", e);
+    e = on;
+    e.words.w3 = 65536;
+    tick(b"record_with_a_word_of_17_bits", e);
+    e = on;
+    e.interrupts.latched = 8;
+    tick(b"record_with_bit_3_latched", e);
+    e = on;
+    e.interrupts.enabled = 128;
+    tick(b"record_with_bit_7_enabled", e);
+}
+
+// A generator that is due at 0 s 0 ns.
+fn due() -> Generator {
+    Generator {
+        pending: Instant {
+            seconds: 0,
+            nanoseconds: 0,
+            remainder: 0,
+        },
+        whole: 256,
+        numerator: 1,
+        denominator: 3,
+        left: 2,
+        direction: 0,
+        mark: 0,
+    }
+}
+
+// Number 4: FIFOs and generators, after a record with a generator that is in order.
+fn malformed_parts() {
+    let mut on = engine::power_on();
+    on.fifo1.count = 9;
+    tick(b"record_with_nine_timestamps", on);
+    on.fifo1.count = 0;
+    on.generator2.mark = 1;
+    tick(b"record_with_an_idle_generator_not_zero", on);
+    on.generator2.mark = 0;
+    on.generator1 = due();
+    tick(b"record_with_a_generator_due", on);
+    let mut e = on;
+    e.generator1.numerator = 3;
+    tick(b"record_with_N_equal_to_D", e);
+    e = on;
+    e.generator1.pending.remainder = 3;
+    tick(b"record_with_a_pending_remainder_of_D", e);
+    e = on;
+    e.generator1.direction = 2;
+    tick(b"record_with_direction_2", e);
+    e = on;
+    e.clock.fraction = 1;
+    tick(b"record_with_a_pending_instant_passed", e);
+}
+
+fn main() {
+    edges();
+    example();
+    lines();
+    numbers();
+    runs();
+    sheets();
+    sizes();
+    malformed_numbers();
+    malformed_parts();
+}

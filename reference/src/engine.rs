@@ -1,0 +1,276 @@
+//! The engine: clock, stampers, generators, interrupt bits, and the nine commands.
+use crate::generator::Generator;
+use std::collections::VecDeque;
+
+const NS: u128 = 1_000_000_000;
+/// The first nanosecond that cannot be shown.
+const END: u128 = (1 << 48) * NS;
+
+const TAC: u64 = 1;
+const SEQUENCE: [u64; 2] = [1 << 2, 1 << 5];
+const EVENT: [u64; 2] = [1 << 1, 1 << 4];
+const NOT_EMPTY: [u64; 3] = [1 << 8, 1 << 10, 1 << 12];
+const OVERFLOW: [u64; 3] = [1 << 9, 1 << 11, 1 << 13];
+
+/// A line of the sheet: the op, then a to h.
+#[derive(Clone, Copy, Debug, PartialEq, Eq)]
+pub struct Command {
+    pub op: u64,
+    pub f: [u64; 8],
+}
+
+#[derive(Clone, Copy, Debug, PartialEq, Eq)]
+pub struct Outcome {
+    pub answer: u64,
+    pub values: [u64; 5],
+}
+
+#[derive(Clone, Copy)]
+struct Stamp {
+    ns: u128,
+    rising: bool,
+}
+
+#[derive(Clone, Copy)]
+struct Adjustment {
+    amount: u128,
+    cycles: u64,
+}
+
+pub struct Engine {
+    /// the time shown and the remainder in one number, in 2^-32 ns
+    exact: u128,
+    period: u128,
+    adjustment: Option<Adjustment>,
+    stampers: [VecDeque<Stamp>; 3],
+    generators: [Option<Generator>; 2],
+    latched: u64,
+    enabled: u64,
+    words: [u64; 5],
+}
+
+fn refuse(answer: u64) -> Outcome {
+    Outcome { answer, values: [0; 5] }
+}
+
+fn accept(values: [u64; 5]) -> Outcome {
+    Outcome { answer: 0, values }
+}
+
+fn words_of(ns: u128, edge: bool) -> [u64; 5] {
+    let (sec, ns) = ((ns / NS) as u64, (ns % NS) as u64);
+    [sec % 65536, sec / 65536 % 65536, sec >> 32, ns % 65536, ns / 65536 + if edge { 32768 } else { 0 }]
+}
+
+impl Default for Engine {
+    fn default() -> Self {
+        Self::new()
+    }
+}
+
+impl Engine {
+    pub fn new() -> Self {
+        Engine {
+            exact: 0,
+            period: 8 << 32,
+            adjustment: None,
+            stampers: Default::default(),
+            generators: [None, None],
+            latched: 0,
+            enabled: 0,
+            words: [0; 5],
+        }
+    }
+
+    /// The time shown, in 1/256 ns.
+    fn shown(&self) -> u128 {
+        self.exact >> 24
+    }
+
+    fn amount(&self) -> u128 {
+        self.adjustment.map_or(self.period, |a| a.amount)
+    }
+
+    pub fn execute(&mut self, c: &Command) -> Outcome {
+        if c.op > 8 {
+            return refuse(5);
+        }
+        if !fields_listed(c) {
+            return refuse(6);
+        }
+        match c.op {
+            0 => self.tick(&c.f),
+            1 => {
+                self.words.copy_from_slice(&c.f[..5]);
+                accept([0; 5])
+            }
+            2 => self.command(c.f[0], c.f[1]),
+            3 => self.arm(&c.f),
+            4 => {
+                self.generators[c.f[0] as usize - 1] = None;
+                accept([0; 5])
+            }
+            5 => {
+                let bits = self.latched;
+                self.latched = 0;
+                accept([bits + if bits & self.enabled != 0 { 1 << 14 } else { 0 }, 0, 0, 0, 0])
+            }
+            6 => {
+                self.enabled = c.f[0];
+                accept([0; 5])
+            }
+            7 => {
+                let full = |i: usize| u64::from(!self.stampers[i].is_empty());
+                accept([full(0) << 7 | full(1) << 8 | full(2) << 9, 0, 0, 0, 0])
+            }
+            _ => accept(self.words),
+        }
+    }
+
+    fn tick(&mut self, f: &[u64; 8]) -> Outcome {
+        let next = self.exact + self.amount();
+        let shown = self.shown();
+        let step = (next >> 24) - shown;
+        if shown + step >= END * 256 {
+            return refuse(15);
+        }
+        for i in 0..3 {
+            self.capture(i, f[i], shown, step);
+        }
+        let v1 = self.generate(0, shown, step);
+        let v2 = self.generate(1, shown, step);
+        if let Some(a) = &mut self.adjustment {
+            a.cycles -= 1;
+            if a.cycles == 0 {
+                self.adjustment = None;
+                self.latched |= TAC;
+            }
+        }
+        self.exact = next;
+        accept([v1, v2, 0, 0, 0])
+    }
+
+    fn capture(&mut self, i: usize, code: u64, shown: u128, step: u128) {
+        if code == 0 {
+            return;
+        }
+        let rising = code >= 9;
+        let eighth = u128::from(if rising { code - 9 } else { code - 1 });
+        let stamp = Stamp { ns: (shown * 8 + eighth * step) / (8 * 256), rising };
+        match self.stampers[i].len() {
+            8 => self.latched |= OVERFLOW[i],
+            n => {
+                if n == 0 {
+                    self.latched |= NOT_EMPTY[i];
+                }
+                self.stampers[i].push_back(stamp);
+            }
+        }
+    }
+
+    fn generate(&mut self, i: usize, shown: u128, step: u128) -> u64 {
+        let Some(mut g) = self.generators[i] else { return 0 };
+        let Some(eighth) = g.eighth(shown, step) else { return 0 };
+        let code = if g.done % 2 == 0 { 9 + eighth } else { 1 + eighth };
+        if g.mark {
+            self.latched |= EVENT[i];
+        }
+        g.done += 1;
+        self.generators[i] = Some(g);
+        if g.done == g.count {
+            self.latched |= SEQUENCE[i];
+            self.generators[i] = None;
+        } else {
+            let next = g.instant(g.done);
+            if next.num >= END * next.den {
+                self.generators[i] = None;
+            }
+        }
+        code
+    }
+
+    fn command(&mut self, write: u64, read: u64) -> Outcome {
+        let [w1, w2, w3, w4, w5] = self.words;
+        if (1..=3).contains(&read) && self.stampers[read as usize - 1].is_empty() {
+            return refuse(7);
+        }
+        let ns = u128::from(w4 + (w5 % 16384) * 65536);
+        let amount = u128::from(w5 << 24 | w4 << 8 | w3 >> 8);
+        let count = (w3 % 256) << 16 | w2;
+        match write {
+            0 if ns >= NS || w5 >= 16384 => return refuse(8),
+            1 | 2 if w5 >> 8 == 0 => return refuse(9),
+            1 if w3 % 256 != 0 => return refuse(9),
+            2 if count == 0 => return refuse(10),
+            2 if self.adjustment.is_some() => return refuse(11),
+            0 => {
+                let seconds = u128::from(w1) + (u128::from(w2) << 16) + (u128::from(w3) << 32);
+                self.exact = (seconds * NS + ns) << 32;
+                self.generators = [None, None];
+            }
+            1 => self.period = amount,
+            2 => self.adjustment = Some(Adjustment { amount, cycles: count }),
+            _ => {}
+        }
+        match read {
+            8 => return accept([0; 5]),
+            0 => self.words = words_of(self.exact >> 32, false),
+            i => {
+                let s = self.stampers[i as usize - 1].pop_front().expect("not empty, by number 7");
+                self.words = words_of(s.ns, s.rising);
+            }
+        }
+        accept(self.words)
+    }
+
+    fn arm(&mut self, f: &[u64; 8]) -> Outcome {
+        let [which, seconds, ns, whole, num, den, count, mark] = *f;
+        if num >= den {
+            return refuse(12);
+        }
+        let place = which as usize - 1;
+        if self.generators[place].is_some() {
+            return refuse(13);
+        }
+        let start = u128::from(seconds) * NS + u128::from(ns);
+        if start * 256 < self.shown() {
+            return refuse(14);
+        }
+        self.generators[place] = Some(Generator {
+            start,
+            whole: u128::from(whole),
+            num: u128::from(num),
+            den: u128::from(den),
+            count,
+            mark: mark == 1,
+            done: 0,
+        });
+        accept([0; 5])
+    }
+}
+
+/// Number 6: every field of the op is in its list, and the fields that the op does not list are 0.
+fn fields_listed(c: &Command) -> bool {
+    let f = &c.f;
+    let word32 = 1..1u64 << 32;
+    let (listed, good) = match c.op {
+        0 => (3, f[..3].iter().all(|&x| x <= 16)),
+        1 => (5, f[..5].iter().all(|&x| x <= 65535)),
+        2 => (2, [0, 1, 2, 16].contains(&f[0]) && [0, 1, 2, 3, 8].contains(&f[1])),
+        3 => (
+            8,
+            [1, 2].contains(&f[0])
+                && f[1] < 1 << 48
+                && f[2] < 1_000_000_000
+                && (256..=999_999_999).contains(&f[3])
+                && f[4] < 1 << 32
+                && word32.contains(&f[5])
+                && word32.contains(&f[6])
+                && f[7] <= 1,
+        ),
+        4 => (1, [1, 2].contains(&f[0])),
+        6 => (1, f[0] & !0x3F7F == 0),
+        _ => (0, true),
+    };
+    good && f[listed..].iter().all(|&x| x == 0)
+}
