@@ -83,8 +83,13 @@ impl Engine {
     }
 
     /// The time shown, in 1/256 ns.
-    fn shown(&self) -> u128 {
+    pub fn shown(&self) -> u128 {
         self.exact >> 24
+    }
+
+    /// What the time shown drops, in 2^-32 ns.
+    pub fn remainder(&self) -> u128 {
+        self.exact & 0xFF_FFFF
     }
 
     fn amount(&self) -> u128 {

@@ -1,5 +1,5 @@
 //! The command sheet: its checks, its run, and what the runner prints.
-use crate::engine::{Command, Engine};
+use crate::engine::{Command, Engine, Outcome};
 use std::fmt::Write;
 
 const FIRST: &[u8] = b"op,a,b,c,d,e,f,g,h\n";
@@ -36,6 +36,11 @@ pub fn commands(sheet: &[u8]) -> Result<Vec<Command>, (usize, u64)> {
 
 /// What the runner prints.
 pub fn results(sheet: &[u8]) -> String {
+    results_seen(sheet, |_, _, _| {})
+}
+
+/// The same, with an onlooker who sees the record after each command, the command and its outcome.
+pub fn results_seen(sheet: &[u8], mut seen: impl FnMut(&Engine, &Command, &Outcome)) -> String {
     let mut out = String::from(HEAD);
     match commands(sheet) {
         Err((line, number)) => writeln!(out, "{line},{number},0,0,0,0,0").expect("a String takes every text"),
@@ -43,6 +48,7 @@ pub fn results(sheet: &[u8]) -> String {
             let mut engine = Engine::new();
             for (i, c) in all.iter().enumerate() {
                 let o = engine.execute(c);
+                seen(&engine, c, &o);
                 let [v1, v2, v3, v4, v5] = o.values;
                 writeln!(out, "{},{},{v1},{v2},{v3},{v4},{v5}", i + 2, o.answer).expect("a String takes every text");
             }

@@ -11,6 +11,10 @@ use Rattle.model.specs.declared.Verdict.{Verdict}
 use Rattle.model.specs.Tests.{every}
 use Rattle.model.specs.Text.{bytes, comma, lineEnd, isValue, numberAfter, parts, row}
 
+-- the version of the sheet format: document 01's. A change of what a sheet may say counts it on
+abbrev pub sheetVersion : ℕ
+sheetVersion = 1
+
 -- `op,a,b,c,d,e,f,g,h` and its line end
 abbrev pub firstLine : List ℕ
 firstLine = bytes "op,a,b,c,d,e,f,g,h\n"

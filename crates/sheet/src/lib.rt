@@ -117,7 +117,7 @@ pub fn line_at(s: &[u8], from: usize) -> &[u8]
 }
 
 // Nine numbers as a command.
-fn command_of(n: [u64; 9]) -> Command
+pub fn command_of(n: [u64; 9]) -> Command
     ensures { λ r. ⌜ r ≡ commandOf n ⌝ }
 {
     Command {

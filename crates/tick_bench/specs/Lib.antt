@@ -1,0 +1,2 @@
+-- What the benchmark runs.
+pub mod Ticks

@@ -1,0 +1,27 @@
+-- Ticks on an engine with orders, for the benchmark. Orders and input codes come from the caller, so that a compiler
+-- cannot work them out beforehand; with counts of 0 nothing is ordered, and the engine is idle.
+use Prim.Native.Nat.{ℕ}
+use mathlib.Core.List.{List, [], _∷_}
+use lib.ListN.{replicate}
+use Rattle.model.specs.declared.Engine.{Engine}
+use Rattle.model.specs.declared.Command.{Command}
+use Rattle.model.specs.Run.{engineFrom, engineAfter}
+use Rattle.model.specs.Sheet.{commandOf}
+
+-- the record after one command, so many times
+abbrev pub repeated : Engine → Command → ℕ → Engine
+repeated e c n = engineFrom e (replicate n c)
+
+-- so many cycles of 7.5 ns (COUNT 15:0), and two trains of so many marked edges
+abbrev pub orders : ℕ → ℕ → List Command
+orders cycles edges =
+    commandOf (1 ∷ 0 ∷ cycles ∷ 0 ∷ 0 ∷ 1920 ∷ 0 ∷ 0 ∷ 0 ∷ [])
+    ∷ commandOf (2 ∷ 2 ∷ 8 ∷ 0 ∷ 0 ∷ 0 ∷ 0 ∷ 0 ∷ 0 ∷ [])
+    ∷ commandOf (3 ∷ 1 ∷ 0 ∷ 3 ∷ 256 ∷ 1 ∷ 3 ∷ edges ∷ 1 ∷ [])
+    ∷ commandOf (3 ∷ 2 ∷ 0 ∷ 5 ∷ 300 ∷ 6 ∷ 7 ∷ edges ∷ 1 ∷ [])
+    ∷ []
+
+-- the nanoseconds shown after n ticks with these input codes
+abbrev pub shownAfter : ℕ → ℕ → ℕ → ℕ → ℕ
+shownAfter n cycles edges code =
+    repeated (engineAfter (orders cycles edges)) (commandOf (0 ∷ code ∷ code ∷ code ∷ 0 ∷ 0 ∷ 0 ∷ 0 ∷ 0 ∷ [])) n .clock .nanoseconds

@@ -1,0 +1,135 @@
+//! The ledger of demand 3, kept from commands, answers and values alone, and its three bullets as assertions.
+use crate::engine::{Command, Outcome};
+
+/// What a generator was ordered to do, and how many of its edges have come.
+#[derive(Clone, Copy)]
+struct Order {
+    /// in nanoseconds
+    start: u128,
+    whole: u128,
+    num: u128,
+    den: u128,
+    count: u128,
+    edges: u128,
+}
+
+impl Order {
+    /// The interval times the denominator.
+    fn interval(&self) -> u128 {
+        self.whole * self.den + self.num
+    }
+
+    /// How many of the ideal instants are below a time in 1/256 ns.
+    fn passed(&self, shown: u128) -> u128 {
+        let (begin, end) = (self.start * self.den * 256, shown * self.den);
+        if end <= begin {
+            return 0;
+        }
+        (end - begin).div_ceil(self.interval() * 256).min(self.count)
+    }
+}
+
+pub struct Ledger {
+    words: [u64; 5],
+    /// exact time, PERIOD and PER_ADJ, in 2^-32 ns
+    time: u128,
+    period: u128,
+    per_adj: u128,
+    owed: u64,
+    orders: [Option<Order>; 2],
+}
+
+impl Default for Ledger {
+    fn default() -> Self {
+        Self::new()
+    }
+}
+
+impl Ledger {
+    pub fn new() -> Self {
+        Ledger { words: [0; 5], time: 0, period: 8 << 32, per_adj: 0, owed: 0, orders: [None, None] }
+    }
+
+    /// One command, and what came back.
+    pub fn told(&mut self, c: &Command, o: &Outcome) {
+        if o.answer != 0 {
+            return;
+        }
+        match c.op {
+            0 => self.tick(o),
+            1 => self.words.copy_from_slice(&c.f[..5]),
+            2 => {
+                self.write(c.f[0]);
+                if c.f[1] != 8 {
+                    self.words = o.values;
+                }
+            }
+            3 => {
+                let [which, s, ns, whole, num, den, count, _] = c.f.map(u128::from);
+                self.orders[which as usize - 1] =
+                    Some(Order { start: s * 1_000_000_000 + ns, whole, num, den, count, edges: 0 });
+            }
+            4 => self.orders[c.f[0] as usize - 1] = None,
+            _ => {}
+        }
+    }
+
+    fn write(&mut self, selector: u64) {
+        let [w1, w2, w3, w4, w5] = self.words.map(u128::from);
+        let amount = (w5 >> 8) << 32 | (w5 & 0xFF) << 24 | w4 << 8 | w3 >> 8;
+        match selector {
+            0 => {
+                let seconds = w1 | w2 << 16 | w3 << 32;
+                self.time = (seconds * 1_000_000_000 + (w4 | w5 << 16)) << 32;
+                self.orders = [None, None];
+            }
+            1 => self.period = amount,
+            2 => {
+                self.per_adj = amount;
+                self.owed = ((w3 & 0xFF) << 16 | w2) as u64;
+            }
+            _ => {}
+        }
+    }
+
+    fn tick(&mut self, o: &Outcome) {
+        let amount = if self.owed > 0 { self.per_adj } else { self.period };
+        self.owed = self.owed.saturating_sub(1);
+        for g in 0..2 {
+            match o.values[g] {
+                0 => {}
+                code => self.edge(g, code, amount),
+            }
+        }
+        self.time += amount;
+    }
+
+    /// An edge that a tick returned, with the exact time at its start and its amount: bullets 2 and 3.
+    fn edge(&mut self, g: usize, code: u64, amount: u128) {
+        assert!((1..=16).contains(&code), "an edge has a code");
+        let order = self.orders[g].as_mut().expect("no edge without an order");
+        let k = order.edges;
+        assert!(k < order.count, "no edge past the count");
+        assert_eq!(code >= 9, k % 2 == 0, "edge k rises where k is even");
+        let eighth = (code - 1) % 8;
+        order.edges += 1;
+        // instant k minus the exact time at the start of the eighth, times 8 * 2^32 * den, both counted from a whole
+        // nanosecond near them
+        let near = (self.time >> 32) as i128;
+        let den = order.den as i128;
+        let instant = (order.start * order.den + k * order.interval()) as i128 - near * den;
+        let exact = 8 * (self.time & 0xFFFF_FFFF) as i128 + i128::from(eighth) * amount as i128;
+        let lag = (instant << 35) - exact * den;
+        assert!(lag > -(den << 27), "not 1/256 ns or more before the eighth");
+        assert!(lag < amount as i128 * den, "less than an eighth of the amount after it");
+    }
+
+    /// After a list: the time shown (1/256 ns) and the remainder (2^-32 ns) against the exact time, and the edges.
+    pub fn holds(&self, shown: u128, remainder: u128) {
+        assert_eq!((shown << 24) + remainder, self.time, "the time shown plus the remainder is the exact time");
+        assert!(remainder < 1 << 24, "less than 1/256 ns is dropped");
+        for order in self.orders.iter().flatten() {
+            assert_eq!(order.edges, order.passed(shown), "each instant that was passed has had its edge");
+        }
+    }
+}
