@@ -397,19 +397,19 @@ fn command(line: &[u8], at: &mut usize) -> Option<Command> {
 }
 
 fn put(out: &mut Vec<u8>, n: u64, end: u8) {
-    let mut digits = [0; 20];
+    if n < 10 {
+        out.extend_from_slice(&[b'0' + n as u8, end]);
+        return;
+    }
+    let mut digits = [end; 21];
     let mut at = 20;
     let mut n = n;
-    loop {
+    while n != 0 {
         at -= 1;
         digits[at] = b'0' + (n % 10) as u8;
         n /= 10;
-        if n == 0 {
-            break;
-        }
     }
     out.extend_from_slice(&digits[at..]);
-    out.push(end);
 }
 
 fn put_line(out: &mut Vec<u8>, line: u64, o: &Outcome) {

@@ -5,12 +5,16 @@ ghost use Rattle.model.specs.Sheet.{sheetVersion};
 ghost use Rattle.model.specs.Results.{resultsRoom};
 ghost use Rattle.runner.specs.Ran.{Ran};
 
+const SHEET_VERSION: u64 = 1;
+
+const RESULTS_ROOM: usize = 138309;
+
 // The version of the sheet format.
 #[no_mangle]
 pub extern "C" fn lendaru_sheet_version() -> u64
     ensures { λ r. ⌜ r ≡ sheetVersion ⌝ }
 {
-    1
+    SHEET_VERSION
 }
 
 // How many bytes are enough for the results of every sheet.
@@ -18,7 +22,7 @@ pub extern "C" fn lendaru_sheet_version() -> u64
 pub extern "C" fn lendaru_results_room() -> usize
     ensures { λ r. ⌜ r ≡ resultsRoom ⌝ }
 {
-    138309
+    RESULTS_ROOM
 }
 
 // Runs a whole sheet from power-on.

@@ -20,7 +20,10 @@ use Rattle.model.specs.Sheet.{isLine, commandIn, noLine, lineOf, refusedAt, she
 use Rattle.model.specs.Sheet.{commandsOf, commandsIn}
 use Rattle.model.specs.Results.{resultLine, resultLines, commandResults}
 use Rattle.model.proofs.Laws.Sheets.{passed, accepted-in, commands-few}
-use Rattle.model.proofs.Laws.Valid.{power-on-valid}
+use Rattle.model.proofs.Laws.Valid.{power-on-valid, execute-valid}
+use Rattle.tick.specs.declared.Quiet.{Quiet}
+use Rattle.tick.specs.Quiet.{isQuiet, quietTick, outcomeOf}
+use Rattle.tick.proofs.Quietly.{quiet-is}
 use Rattle.engine.specs.Stepped.{Stepped}
 use Rattle.sheet.proofs.Parts.{parts-some, parts-more}
 use Rattle.sheet.proofs.Body.{body-line, body-cut}
@@ -54,6 +57,15 @@ run-start s out from e h room on =
       accepted = body .2;
       rest = rw on (rest-whole room);
     }
+
+-- a tick without inputs is a step like any other
+pub quiet-stepped : (e : Engine) (c : Command) (q : Quiet) → valid e ≡ true → isQuiet c ≡ true
+    → outcomeOf e q ≡ execute e quietTick
+    → Stepped e c (outcomeOf e q)
+quiet-stepped e c q v quiet is = record {
+  is = rw (quiet-is c quiet) is;
+  keeps = ap (λ o. valid (o .engine)) is ∙ execute-valid e quietTick v;
+}
 
 commands-first : (l : List ℕ) (ps : List (List ℕ)) → 0 < length ps → commandsOf (l ∷ ps) ≡ commandIn l ∷ commandsOf ps
 commands-first l [] h = absurd (omega arith)

@@ -2,7 +2,7 @@
 -- may stop at once. How a text leads is told by its length and its first byte.
 use mathlib.Core.Path.{_≡_, refl, sym, _∙_}
 use mathlib.Core.List.{List, [], _∷_}
-use mathlib.Core.Bool.{Bool, true, false, _&&_, and-false, not, cond}
+use mathlib.Core.Bool.{Bool, true, false, _&&_, and-true, and-false, not, cond}
 use Prim.Native.Nat.{ℕ, suc, _+_, _*_, _-_, _^_, _≤_, _<_}
 use native.Mathlib.Numerals.{add-one}
 use native.Mathlib.Omega.{arith}
@@ -11,7 +11,7 @@ use lib.ListN.{length, getD, drop}
 use lib.Seq.{drop-cons}
 use borrow.Author.Tests.{le-ltb, ltb-false, ne-eqb}
 use Rattle.model.specs.declared.Value.{Value}
-use Rattle.model.specs.Text.{isDigit, allDigits, numberAfter, leadsWell, noValue}
+use Rattle.model.specs.Text.{isDigit, allDigits, numberAfter, leadsWell, isValue, noValue, valueOf}
 use Rattle.model.proofs.Laws.Values.{number-grows}
 use Rattle.sheet.specs.Reading.{digitAfter}
 
@@ -50,3 +50,10 @@ leads-by-length (b ∷ []) = refl
 leads-by-length (b ∷ d ∷ bs) =
     let n = length (b ∷ d ∷ bs) in
     rw (ne-eqb n 0 (λ e. omega arith), ne-eqb n 1 (λ e. omega arith))
+
+-- a text of one byte leads well, and its number is the byte's digit after 0
+pub value-one : (s : List ℕ) → length s ≡ 1 → digitAfter 0 (getD s 0 0) ≡ valueOf s
+unfolding isValue valueOf
+value-one [] one = absurd (omega arith)
+value-one (b ∷ []) one = rw and-true
+value-one (b ∷ d ∷ bs) one = absurd (omega arith)

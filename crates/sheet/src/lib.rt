@@ -72,6 +72,10 @@ fn leads_well(s: &[u8]) -> bool
 pub fn read_value(s: &[u8]) -> Value
     ensures { λ r. ⌜ r ≡ valueOf (now (s .entry)) ⌝ }
 {
+    // Most values of a sheet have one digit.
+    if s.len() == 1 {
+        return next_digit(0, s[0]);
+    }
     if leads_well(s) {
         let mut v: u64 = 0;
         let mut i = 0;
@@ -104,6 +108,21 @@ fn run_length(s: &[u8], from: usize, separator: u8) -> usize
         i += 1;
     }
     i - from
+}
+
+// How many bytes stand before the next comma: at once where it is one, as most values have one digit.
+fn value_length(s: &[u8], at: usize) -> usize
+    requires { ⌜ at ≤ length (now s) ⌝ }
+    ensures { λ r. ⌜ RunTo 44 at (now (s .entry)) r ⌝ }
+{
+    if at + 1 < s.len() {
+        if s[at] != 44 {
+            if s[at + 1] == 44 {
+                return 1;
+            }
+        }
+    }
+    run_length(s, at, 44)
 }
 
 // The value line that begins at an index: the caller's bytes up to the next line end.
@@ -150,7 +169,7 @@ pub fn read_line(s: &[u8]) -> Line
     let mut at = 0;
     let mut k = 0;
     while k < 8 {
-        let n = run_length(s, at, 44);
+        let n = value_length(s, at);
         let end = at + n;
         if s.len() <= end {
             return no_line();

@@ -1,2 +1,3 @@
--- What an accepted tick knows of its record.
+-- What an accepted tick knows of its record, and what a tick without inputs does.
 pub mod Within
+pub mod Quietly

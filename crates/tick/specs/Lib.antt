@@ -1,2 +1,3 @@
 -- What a tick asks, and the list of its events.
 pub mod Ticks
+pub mod Quiet

@@ -2,7 +2,7 @@
 -- of bit positions. Document 01, "The clock" and "Interrupt words".
 use mathlib.Core.Path.{_≡_}
 use mathlib.Core.List.{List, [], _∷_}
-use mathlib.Core.Bool.{Bool}
+use mathlib.Core.Bool.{Bool, false}
 use Rattle.model.specs.declared.Engine.{Engine}
 use Rattle.model.specs.declared.Command.{Command}
 use Rattle.model.specs.declared.Steering.{Steering}
@@ -36,6 +36,22 @@ eventsOf last output1 output2 input1 input2 input3 =
     ∷ input2 .overflow
     ∷ input3 .first
     ∷ input3 .overflow
+    ∷ []
+
+-- the same without inputs
+abbrev pub outputEvents : Bool → Advanced → Advanced → List Bool
+outputEvents last output1 output2 =
+    last
+    ∷ output1 .event
+    ∷ output1 .sequence
+    ∷ output2 .event
+    ∷ output2 .sequence
+    ∷ false
+    ∷ false
+    ∷ false
+    ∷ false
+    ∷ false
+    ∷ false
     ∷ []
 
 -- the latched bits with those of the events, and the same mask

@@ -3,16 +3,22 @@
 // "Stamps and generators".
 ghost use mathlib.Core.Path.{_≡_};
 ghost use Rattle.model.specs.Words.{five};
-ghost use Rattle.model.specs.Execute.{accepted, tickEngine, tickValues};
-ghost use Rattle.tick.specs.Ticks.{Ticks, steeringAfter, eventsOf, interruptsAfter};
+ghost use mathlib.Core.Bool.{true};
+ghost use Rattle.model.specs.Ranges.{valid};
+ghost use Rattle.model.specs.Execute.{accepted, tickEngine, tickValues, execute};
+ghost use Rattle.tick.specs.Ticks.{Ticks, steeringAfter, eventsOf, outputEvents, interruptsAfter};
+ghost use Rattle.tick.specs.Quiet.{isQuiet, quietTick, standing, outcomeOf};
 use fifo::Captured;
 use generator::Advanced;
+use model::Clock;
 use model::Command;
 use model::Engine;
+use model::Generator;
 use model::Interrupts;
 use model::Outcome;
 use model::Steering;
 use model::Words;
+use tests::both;
 
 // PERIOD stays, and the adjustment loses a cycle.
 fn spend_cycle(s: Steering) -> Steering
@@ -69,6 +75,29 @@ fn latch_events(
     }
 }
 
+// The same for a tick without inputs.
+fn latch_outputs(i: Interrupts, last: bool, output1: Advanced, output2: Advanced) -> Interrupts
+    ensures { λ r. ⌜ r ≡ interruptsAfter i (outputEvents last output1 output2) ⌝ }
+{
+    let events = [
+        last,
+        output1.event,
+        output1.sequence,
+        output2.event,
+        output2.sequence,
+        false,
+        false,
+        false,
+        false,
+        false,
+        false,
+    ];
+    Interrupts {
+        latched: interrupts::latch(i.latched, events),
+        enabled: i.enabled,
+    }
+}
+
 // The whole tick, from the record before it.
 pub fn tick(e: Engine, c: Command) -> Outcome
     requires { ⌜ Ticks e c ⌝ }
@@ -105,4 +134,76 @@ pub fn tick(e: Engine, c: Command) -> Outcome
             words: words,
         },
     }
+}
+
+// What a tick without inputs returns, and the parts of the record that it may change; FIFOs and words stay.
+pub struct Quiet {
+    pub answer: u64,
+    pub values: Words,
+    pub clock: Clock,
+    pub steering: Steering,
+    pub generator1: Generator,
+    pub generator2: Generator,
+    pub interrupts: Interrupts,
+}
+
+// A tick without inputs: nine zeros.
+pub fn is_quiet(c: Command) -> bool
+    ensures { λ r. ⌜ r ≡ isQuiet c ⌝ }
+{
+    both(
+        both(both(c.op == 0, c.a == 0), both(c.b == 0, c.c == 0)),
+        both(
+            both(both(c.d == 0, c.e == 0), both(c.f == 0, c.g == 0)),
+            c.h == 0,
+        ),
+    )
+}
+
+// No tick: the time would pass the last second.
+fn stand(e: Engine) -> Quiet
+    ensures { λ r. ⌜ r ≡ standing e ⌝ }
+{
+    let clock = e.clock;
+    let steering = e.steering;
+    let generator1 = e.generator1;
+    let generator2 = e.generator2;
+    let kept = e.interrupts;
+    Quiet {
+        answer: 15,
+        values: words::no_words(),
+        clock: clock,
+        steering: steering,
+        generator1: generator1,
+        generator2: generator2,
+        interrupts: kept,
+    }
+}
+
+// A tick without inputs on a valid record: the same as `execute` gives, for callers that keep the FIFOs in place.
+pub fn quiet_tick(e: Engine) -> Quiet
+    requires { ⌜ valid e ≡ true ⌝ }
+    ensures { λ r. ⌜ outcomeOf e r ≡ execute e quietTick ⌝ }
+{
+    let amount = clock::cycle_amount(e.steering);
+    let step = clock::step_by(e.clock, amount);
+    if clock::ends_in_time(e.clock, step) {
+        let next = clock::tick_clock(e.clock, amount, step);
+        let output1 = generator::advance(e.generator1, e.clock, next, step);
+        let output2 = generator::advance(e.generator2, e.clock, next, step);
+        let last = clock::is_last_cycle(e.steering.adjustment);
+        let latched = latch_outputs(e.interrupts, last, output1, output2);
+        let generator1 = output1.generator;
+        let generator2 = output2.generator;
+        return Quiet {
+            answer: 0,
+            values: codes(output1, output2),
+            clock: next,
+            steering: spend_cycle(e.steering),
+            generator1: generator1,
+            generator2: generator2,
+            interrupts: latched,
+        };
+    }
+    stand(e)
 }

@@ -39,17 +39,28 @@ fn put_decimal(out: &mut [u8], at: usize, n: u64) -> usize
     put_byte(out, next, 48 + ((n % 10) as u8))
 }
 
+// A number; most have one digit.
+fn put_number(out: &mut [u8], at: usize, n: u64) -> usize
+    requires { ⌜ at + length (decimal n) ≤ length (now out) ⌝ }
+    ensures { λ r. ⌜ Written (now (out .entry)) (now (out .exit)) at (decimal n) r ⌝ }
+{
+    if n < 10 {
+        return put_byte(out, at, 48 + (n as u8));
+    }
+    put_decimal(out, at, n)
+}
+
 // A line of numbers with commas between them.
 pub fn put_row(out: &mut [u8], at: usize, numbers: &[u64]) -> usize
     requires { ⌜ 0 < length (now numbers) ⌝ }
     requires { ⌜ at + length (row (now numbers)) ≤ length (now out) ⌝ }
     ensures { λ r. ⌜ Written (now (out .entry)) (now (out .exit)) at (row (now (numbers .entry))) r ⌝ }
 {
-    let mut end = put_decimal(out, at, numbers[0]);
+    let mut end = put_number(out, at, numbers[0]);
     let mut i = 1;
     while i < numbers.len() {
         end = put_byte(out, end, 44);
-        end = put_decimal(out, end, numbers[i]);
+        end = put_number(out, end, numbers[i]);
         i += 1;
     }
     put_byte(out, end, 10)

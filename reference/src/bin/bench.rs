@@ -124,15 +124,19 @@ fn work(row: &Row, n: u64, ours: bool) -> u64 {
     sheets * row.lines
 }
 
-fn nanoseconds(row: &Row, ours: bool) -> f64 {
-    let n = if row.lines == 0 { 60_000 } else { 180_000 };
-    (0..9)
-        .map(|_| {
+/// Nanoseconds of a unit, Lendaru's and the tuned engine's: the best of many short runs by turns, so that a change of
+/// the machine's clock meets both.
+fn nanoseconds(row: &Row) -> [f64; 2] {
+    let n = if row.lines == 0 { 30_000 } else { 36_000 };
+    let mut best = [f64::INFINITY; 2];
+    for _ in 0..60 {
+        for (who, best) in best.iter_mut().enumerate() {
             let start = Instant::now();
-            let done = work(row, n, ours);
-            start.elapsed().as_nanos() as f64 / done as f64
-        })
-        .fold(f64::INFINITY, f64::min)
+            let done = work(row, n, who == 0);
+            *best = best.min(start.elapsed().as_nanos() as f64 / done as f64);
+        }
+    }
+    best
 }
 
 /// Instructions of a unit: the difference of two runs under valgrind, so that start-up does not count.
@@ -161,7 +165,7 @@ fn main() {
     println!("| Row | ns | tuned Rust, ns | ratio | instructions | tuned Rust | ratio |");
     println!("|---|---|---|---|---|---|---|");
     for (i, row) in ROWS.iter().enumerate() {
-        let (a, b) = (nanoseconds(row, true), nanoseconds(row, false));
+        let [a, b] = nanoseconds(row);
         let counted = match (instructions(i, true), instructions(i, false)) {
             (Some(x), Some(y)) => format!("{x:.0} | {y:.0} | {:.2}", x / y),
             _ => "- | - | -".to_string(),

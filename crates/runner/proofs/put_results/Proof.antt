@@ -1,35 +1,50 @@
 -- Each turn writes the line of the next command, so the lines written and those of the commands left are all of them.
 use Prim.Native.Nat.{_-_}
-use mathlib.Core.Path.{_∙_}
+use mathlib.Core.Path.{_≡_, sym, _∙_}
+use mathlib.Core.Logic.{⊎-elim}
 use native.Mathlib.Omega.{arith}
 use lib.ListN.{length}
 use borrow.Author.Needs.{needs}
-use Rattle.runner.proofs.Turns.{RunTo, run-start, whole-line, line-room, run-on, run-end}
+use Rattle.model.specs.declared.Outcome.{Outcome}
+use Rattle.engine.specs.Stepped.{Stepped}
+use Rattle.runner.proofs.Turns.{RunTo, run-start, quiet-stepped, whole-line, line-room, run-on, run-end}
 use Rattle.runner.proofs.put_results.Statement.{statement}
 use Rattle.runner.proofs.put_results.Tie as tie
 
 abbrev Inv-loop : tie.InvT-loop
-Inv-loop s out₀ from e₀ k₀ at₀ end₀ out e k at end = RunTo s out₀ from out e k at end
+Inv-loop s out₀ from e₀ k₀ at₀ end₀ answer₀ out e k at end answer = RunTo s out₀ from out e k at end
 
 abbrev μ-loop : tie.MeasureT-loop
-μ-loop s out₀ from e₀ k₀ at₀ end₀ out e k at end = length s - at
+μ-loop s out₀ from e₀ k₀ at₀ end₀ answer₀ out e k at end answer = length s - at
 
 loop-holds : tie.Need-loop-holds Inv-loop μ-loop
 loop-holds c =
     let start = c .before .before .before in
     run-start _ _ _ _ (start .pre .0) (start .pre .1) (c .power-on .ensures)
 
-step-requires : tie.Need-step-requires Inv-loop μ-loop
-step-requires c κs = c .before .before .before .before .loop .inv .is-valid
+-- where the two ways of running a command meet: its outcome
+abbrev outcome : tie.Joined1 Inv-loop μ-loop → Outcome
+outcome c = record { answer = c .if1 .answer; values = c .if1 .values; engine = c .if1 .e }
+
+command-stepped : (c : tie.Joined1 Inv-loop μ-loop)
+    → let read = c .before .before .before .before in
+    Stepped (read .before .before .before .loop .e) (read .read-line .result .command) (outcome c)
+command-stepped c =
+    let read = c .before .before .before .before in
+    let at = read .before .before .before in
+    ⊎-elim
+    (λ w. rw (w .8, w .9, w .10)
+    (quiet-stepped _ _ _ (at .loop .inv .is-valid) (sym (c .before .is-quiet .ensures) ∙ w .0 .taken) (w .1 .ensures)))
+    (λ w. rw (w .4, w .5, w .6) (w .1 .ensures))
+    (c .if1 .came)
 
 put-result-requires : tie.Need-put-result-requires Inv-loop μ-loop
 put-result-requires c κs =
-    let step = c .before .before in
-    let read = step .before .before in
+    let read = c .before .before .before .before .before in
     let line = read .before in
     let at = line .before .before in
     line-room (at .loop .inv) (line .before .loop-test .taken) _ (line .line-at .ensures) _ (read .read-line .ensures) _
-    (step .step .ensures)
+    (command-stepped (c .before))
 
 add-at : tie.Need-add-at Inv-loop μ-loop
 add-at c =
@@ -59,13 +74,13 @@ loop-less c =
 
 loop-again : tie.Need-loop-again Inv-loop μ-loop
 loop-again c =
-    let put = c .before .before .before in
-    let step = put .before .before .before in
-    let read = step .before .before in
+    let put = c .before .before in
+    let met = put .before .before in
+    let read = met .before .before .before .before in
     let line = read .before in
     let at = line .before .before in
     run-on (at .loop .inv) (line .before .loop-test .taken) _ (line .line-at .ensures) _ (read .read-line .ensures) _
-    (step .step .ensures) (put .put-result .ensures)
+    (command-stepped met) (put .put-result .ensures)
 
 same-length : tie.Need-same-length Inv-loop μ-loop
 same-length c = c .before .loop .inv .rest .same
@@ -76,5 +91,7 @@ returns c = run-end (c .before .loop .inv) (c .loop-test .left)
 pub put-results-spec : {M : Type 1} → statement M
 put-results-spec =
     tie.close
-    (tie.spec Inv-loop μ-loop (search needs) loop-holds (search needs) (search needs) step-requires put-result-requires
+    (tie.spec Inv-loop μ-loop (search needs) loop-holds (search needs) (search needs) (search needs) (search needs)
+    (λ c κs. c .before .before .before .before .before .before .before .loop .inv .is-valid)
+    (λ c κs. c .before .before .before .before .before .before .before .loop .inv .is-valid) put-result-requires
     add-at add-at-2 add-k loop-less loop-again same-length returns)

@@ -21,14 +21,14 @@ returns c =
     let run = c .before .before in
     let at = run .before .before in
     c .no-line .ensures
-    ∙ line-cut (at .loop .inv) (run .run-length .ensures) (run .before .loop-test .taken) (c .before .if1 .taken)
+    ∙ line-cut (at .loop .inv) (run .value-length .ensures) (run .before .loop-test .taken) (c .before .if1 .taken)
 
 returns-2 : tie.Need-returns-2 Inv-loop μ-loop
 returns-2 c =
     let read = c .before .before .before in
     let run = read .before .before .before in
     let at = run .before .before in
-    let stop = line-stop (at .loop .inv) (run .run-length .ensures) (run .before .loop-test .taken) in
+    let stop = line-stop (at .loop .inv) (run .value-length .ensures) (run .before .loop-test .taken) in
     c .no-line2 .ensures
     ∙ stop (read .before .before .if1 .left) (read .read-value .ensures) (not-true _ (c .before .if2 .taken))
 
@@ -37,7 +37,7 @@ loop-again c =
     let read = c .before .before in
     let run = read .before .before .before in
     let at = run .before .before in
-    let on = line-on (at .loop .inv) (run .run-length .ensures) (run .before .loop-test .taken) in
+    let on = line-on (at .loop .inv) (run .value-length .ensures) (run .before .loop-test .taken) in
     on (read .before .before .if1 .left) (read .read-value .ensures) (not-false _ (c .if2 .left))
 
 returns-3 : tie.Need-returns-3 Inv-loop μ-loop

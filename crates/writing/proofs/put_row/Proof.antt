@@ -16,8 +16,8 @@ Inv-loop out₀ at numbers end₀ i₀ out end i = Rest out₀ out end₀ (rowFr
 abbrev μ-loop : tie.MeasureT-loop
 μ-loop out₀ at numbers end₀ i₀ out end i = length numbers - i
 
-put-decimal-requires : tie.Need-put-decimal-requires Inv-loop μ-loop
-put-decimal-requires c κs =
+put-number-requires : tie.Need-put-number-requires Inv-loop μ-loop
+put-number-requires c κs =
     let start = c .before .before .before .before in
     let whole = rest-whole {out = start .args .out .now} (start .pre .1) in
     rest-room (decimal _) _ whole (row-first (start .args .numbers .now) (start .pre .0))
@@ -26,7 +26,7 @@ loop-holds : tie.Need-loop-holds Inv-loop μ-loop
 loop-holds c =
     let first = c .before .before in
     let start = first .before .before .before .before .before in
-    let begun = row-begun (start .args .numbers .now) (start .pre .0) (start .pre .1) (first .put-decimal .ensures) in
+    let begun = row-begun (start .args .numbers .now) (start .pre .0) (start .pre .1) (first .put-number .ensures) in
     rest-whole (begun .room)
 
 put-byte-requires : tie.Need-put-byte-requires Inv-loop μ-loop
@@ -35,8 +35,8 @@ put-byte-requires c κs =
     let room = rest-room (comma ∷ []) _ (c .before .before .loop .inv) next in
     search needs
 
-put-decimal-requires-2 : tie.Need-put-decimal-requires-2 Inv-loop μ-loop
-put-decimal-requires-2 c κs =
+put-number-requires-2 : tie.Need-put-number-requires-2 Inv-loop μ-loop
+put-number-requires-2 c κs =
     let byte = c .before .before .before .before in
     let turn = byte .before .before in
     let next = row-next _ _ (turn .loop-test .taken) in
@@ -48,7 +48,7 @@ loop-again c =
     let turn = byte .before .before in
     let next = row-next _ _ (turn .loop-test .taken) in
     let number = rest-less (turn .before .loop .inv) next (byte .put-byte .ensures) in
-    rest-less number refl (c .before .before .put-decimal2 .ensures)
+    rest-less number refl (c .before .before .put-number2 .ensures)
 
 put-byte-requires-2 : tie.Need-put-byte-requires-2 Inv-loop μ-loop
 put-byte-requires-2 c κs =
@@ -62,13 +62,13 @@ returns c =
     let over = byte .before .before in
     let first = over .before .before .before .before in
     let start = first .before .before .before .before .before in
-    let begun = row-begun (start .args .numbers .now) (start .pre .0) (start .pre .1) (first .put-decimal .ensures) in
+    let begun = row-begun (start .args .numbers .now) (start .pre .0) (start .pre .1) (first .put-number .ensures) in
     let end = row-end _ _ (over .loop-test .left) in
     rest-last begun (rest-none (rest-less (over .before .loop .inv) end (byte .put-byte2 .ensures)))
 
 pub put-row-spec : {M : Type 1} → statement M
 put-row-spec =
     tie.close
-    (tie.spec Inv-loop μ-loop (search needs) put-decimal-requires loop-holds put-byte-requires (search needs)
-    (search needs) put-decimal-requires-2 (search needs) (search needs) loop-again put-byte-requires-2 (search needs)
+    (tie.spec Inv-loop μ-loop (search needs) put-number-requires loop-holds put-byte-requires (search needs)
+    (search needs) put-number-requires-2 (search needs) (search needs) loop-again put-byte-requires-2 (search needs)
     returns)
