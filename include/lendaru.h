@@ -27,12 +27,12 @@ size_t lendaru_results_room(void);
 
 /* Runs a command sheet from power-on.
  *
- * Needs: `sheet` points to `sheet_length` bytes, of any content and any length (a length of 0 is allowed); `out` points
- * to `out_length` bytes that do not overlap the sheet. A pointer is not null, even where its length is 0.
+ * Needs: `sheet` points to `sheet_length` bytes, of any content and any length (0 is allowed); `out` points to
+ * `out_length` bytes that do not overlap the sheet. A pointer is not null, even where its length is 0.
  *
- * Leaves: where out_length is at least LENDARU_RESULTS_ROOM, the text of the results at the front of `out` (no 0 byte is
- * added) and the bytes behind it as they were; returns the length of the text, at least 27. Where out_length is less,
- * `out` as it was; returns 0. The sheet is never changed.
+ * Leaves: where out_length is at least LENDARU_RESULTS_ROOM, the text of the results at the front of `out` (no 0 byte
+ * is added) and the bytes behind it as they were; returns the length of the text, at least 27. Where out_length is
+ * less, `out` as it was; returns 0. The sheet is never changed.
  *
  * The text is `line,answer,v1,v2,v3,v4,v5` and a line for each command, or for a refused sheet that head and one line
  * (docs/GUIDE.md). */

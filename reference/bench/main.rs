@@ -50,7 +50,8 @@ fn tuned_ticks(n: u64, [cycles, edges, code]: [u64; 3], checked: bool) -> u64 {
     e.nanoseconds()
 }
 
-/// A sheet of n lines: tick lines; or a busy one, with two trains, steering, inputs, and timestamps and interrupts read.
+/// A sheet of n lines: tick lines; or a busy one, with two trains, steering, inputs, and timestamps and interrupts
+/// read.
 fn sheet_of(n: u64, busy: bool) -> Vec<u8> {
     let mut s = b"op,a,b,c,d,e,f,g,h\n".to_vec();
     for i in 0..n {
@@ -172,6 +173,6 @@ fn main() {
         };
         println!("| {} | {a:.1} | {b:.1} | {:.2} | {counted} |", row.name, a / b);
     }
-    println!("\nTicks with check 4 beside ticks without it, and sheets, whose record Lendaru checks once and the tuned");
-    println!("engine at every line. Record of the tuned engine: {} bytes.", std::mem::size_of::<tuned::Engine>());
+    println!("\nA sheet's record is checked once by Lendaru, and at every line by the tuned engine.");
+    println!("Record of the tuned engine: {} bytes.", std::mem::size_of::<tuned::Engine>());
 }

@@ -21,7 +21,10 @@ orders cycles edges =
     ∷ commandOf (3 ∷ 2 ∷ 0 ∷ 5 ∷ 300 ∷ 6 ∷ 7 ∷ edges ∷ 1 ∷ [])
     ∷ []
 
--- the nanoseconds shown after n ticks with these input codes
+-- a tick with one code on each input
+abbrev pub tickOf : ℕ → Command
+tickOf code = commandOf (0 ∷ code ∷ code ∷ code ∷ 0 ∷ 0 ∷ 0 ∷ 0 ∷ 0 ∷ [])
+
+-- the nanoseconds shown after n ticks
 abbrev pub shownAfter : ℕ → ℕ → ℕ → ℕ → ℕ
-shownAfter n cycles edges code =
-    repeated (engineAfter (orders cycles edges)) (commandOf (0 ∷ code ∷ code ∷ code ∷ 0 ∷ 0 ∷ 0 ∷ 0 ∷ 0 ∷ [])) n .clock .nanoseconds
+shownAfter n cycles edges code = repeated (engineAfter (orders cycles edges)) (tickOf code) n .clock .nanoseconds

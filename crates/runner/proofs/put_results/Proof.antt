@@ -43,8 +43,8 @@ put-result-requires c κs =
     let read = c .before .before .before .before .before in
     let line = read .before in
     let at = line .before .before in
-    line-room (at .loop .inv) (line .before .loop-test .taken) _ (line .line-at .ensures) _ (read .read-line .ensures) _
-    (command-stepped (c .before))
+    line-room (at .loop .inv) (line .before .loop-test .taken) _ (line .line-at .ensures) _
+    (read .read-line .ensures) _ (command-stepped (c .before))
 
 add-at : tie.Need-add-at Inv-loop μ-loop
 add-at c =

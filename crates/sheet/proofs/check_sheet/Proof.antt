@@ -32,4 +32,5 @@ returns-3 c =
 pub check-sheet-spec : {M : Type 1} → statement M
 check-sheet-spec =
     tie.close
-    (tie.spec (search needs) returns (search needs) (search needs) check-body-requires returns-2 (search needs) returns-3)
+    (tie.spec (search needs) returns (search needs) (search needs) check-body-requires returns-2 (search needs)
+    returns-3)

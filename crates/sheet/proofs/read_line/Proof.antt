@@ -1,4 +1,5 @@
 -- A text of 17 bytes that starts with those of the tick without inputs is this line, whose command is nine zeros.
+use Prim.Native.Nat.{ℕ}
 use mathlib.Core.Path.{_≡_, refl, sym, ap, _∙_}
 use mathlib.Core.Bool.{true}
 use mathlib.Core.List.{List, []}
@@ -9,7 +10,10 @@ use Rattle.sheet.proofs.FirstLine.{starts-whole}
 use Rattle.sheet.proofs.read_line.Statement.{statement}
 use Rattle.sheet.proofs.read_line.Tie as tie
 
-quiet-line : lineOf (bytes "0,0,0,0,0,0,0,0,0") ≡ record { ok = true; command = commandOf [] }
+abbrev quietLine : List ℕ
+quietLine = bytes "0,0,0,0,0,0,0,0,0"
+
+quiet-line : lineOf quietLine ≡ record { ok = true; command = commandOf [] }
 unfolding lineOf isLine isValue
 quiet-line = refl
 
@@ -18,7 +22,7 @@ returns c =
     let test = c .before .before in
     let length = test .before .before in
     let starts = sym (test .starts-with .ensures) ∙ c .before .if2 .taken in
-    let is = starts-whole (bytes "0,0,0,0,0,0,0,0,0") (length .before .before .args .s .now) starts (length .if1 .taken) in
+    let is = starts-whole quietLine (length .before .before .args .s .now) starts (length .if1 .taken) in
     rw (c .command-of .ensures, is) (sym quiet-line)
 
 pub read-line-spec : {M : Type 1} → statement M
