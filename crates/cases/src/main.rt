@@ -1,6 +1,5 @@
 // Runs every sheet of data/ through the runner and prints its results under its name, then a command on records that
 // no sheet reaches. The stored output was not made by this program: WORKED_OUT.md says how it was.
-use model::Command;
 use model::Engine;
 use model::Generator;
 use model::Instant;
@@ -119,18 +118,7 @@ fn print_field(n: u64) {
 fn tick(name: &[u8], e: Engine) {
     io::write_all(1, name);
     io::write_all(1, b":\n");
-    let c = Command {
-        op: 0,
-        a: 0,
-        b: 0,
-        c: 0,
-        d: 0,
-        e: 0,
-        f: 0,
-        g: 0,
-        h: 0,
-    };
-    let o = engine::execute(e, c);
+    let o = engine::execute(e, sheet::command_of([0u64; 9]));
     let v = o.values;
     io::print_decimal(1, o.answer);
     print_field(v.w1);

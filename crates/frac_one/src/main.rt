@@ -4,7 +4,6 @@
 ghost use mathlib.Core.Path.{_≡_};
 ghost use mathlib.Core.Bool.{true};
 ghost use Rattle.model.specs.Ranges.{valid};
-use model::Command;
 use model::Engine;
 
 // The number of a tick, and the time shown after it.
@@ -14,21 +13,6 @@ struct Tick {
     fraction: u64,
 }
 
-// A command with the fields that are needed here.
-fn command(op: u64, a: u64, b: u64, c: u64, e: u64) -> Command {
-    Command {
-        op: op,
-        a: a,
-        b: b,
-        c: c,
-        d: 0,
-        e: e,
-        f: 0,
-        g: 0,
-        h: 0,
-    }
-}
-
 // The first tick after which the time shown has a fraction, or number 0 where so many ticks bring none.
 fn first_fraction(start: Engine, most: u64) -> Tick
     requires { ⌜ valid start ≡ true ⌝ }
@@ -36,7 +20,7 @@ fn first_fraction(start: Engine, most: u64) -> Tick
     let mut e = start;
     let mut n: u64 = 0;
     while n < most {
-        let o = engine::step(e, command(0, 0, 0, 0, 0));
+        let o = engine::step(e, sheet::command_of([0u64; 9]));
         let next = o.engine;
         e = next;
         n += 1;
@@ -58,8 +42,14 @@ fn first_fraction(start: Engine, most: u64) -> Tick
 
 fn main() {
     // FRAC 7:0 is the high byte of word 3, NS the high byte of word 5
-    let loaded = engine::step(engine::power_on(), command(1, 0, 0, 256, 2048));
-    let written = engine::step(loaded.engine, command(2, 1, 8, 0, 0));
+    let loaded = engine::step(
+        engine::power_on(),
+        sheet::command_of([1, 0, 0, 256, 0, 2048, 0, 0, 0]),
+    );
+    let written = engine::step(
+        loaded.engine,
+        sheet::command_of([2, 1, 8, 0, 0, 0, 0, 0, 0]),
+    );
     let tick = first_fraction(written.engine, 33554432);
     io::print_decimal(1, tick.number);
     io::write_all(1, b",");

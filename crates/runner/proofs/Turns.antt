@@ -35,7 +35,7 @@ abbrev resultsFrom : Engine → ℕ → List ℕ → List ℕ
 resultsFrom e k s = resultLines k (historyFrom e (commandsOf (parts lineEnd s)))
 
 -- between two turns: the lines up to an index have been run, and their results stand in the buffer
-pub record RunTo (s before : List ℕ) (from : ℕ) (after : List ℕ) (e : Engine) (k at end : ℕ) : Type 0 where
+pub record RanTo (s before : List ℕ) (from : ℕ) (after : List ℕ) (e : Engine) (k at end : ℕ) : Type 0 where
   pub within : at ≤ length s
   pub short : length s ≤ 65536
   pub numbered : k ≤ at + 2
@@ -46,7 +46,7 @@ pub record RunTo (s before : List ℕ) (from : ℕ) (after : List ℕ) (e : Engi
 pub run-start : (s out : List ℕ) (from : ℕ) (e : Engine) → sheetVerdict s ≡ sheetAccepted
     → from + length (commandResults s) ≤ length out
     → e ≡ powerOn
-    → RunTo s out from out e 2 19 from
+    → RanTo s out from out e 2 19 from
 unfolding commandsIn
 run-start s out from e h room on =
     let body = accepted-in s h in record {
@@ -78,7 +78,7 @@ read-command true c r e h = ap (λ x. x .command) e
 read-command false c r e h = absurd (false≢true (sym (ap (λ x. x .ok) e) ∙ h))
 
 -- a turn: the line at an index, what is read of it, and its command's outcome
-module _ {s before after : List ℕ} {from : ℕ} {e : Engine} {k at end : ℕ} (run : RunTo s before from after e k at end)
+module _ {s before after : List ℕ} {from : ℕ} {e : Engine} {k at end : ℕ} (run : RanTo s before from after e k at end)
     (some : at < length s) (l : List ℕ) (is : l ≡ firstPart lineEnd (drop at s)) where
   pub whole-line : at + length l < length s
   whole-line =
@@ -122,7 +122,7 @@ module _ {s before after : List ℕ} {from : ℕ} {e : Engine} {k at end : ℕ} 
       line-room = rest-room resultHere resultsBehind (run .rest) results-here
 
       pub run-on : {out : List ℕ} {next : ℕ} → Written after out end resultHere next
-          → RunTo s before from out (o .engine) (k + 1) (at + length l + 1) next
+          → RanTo s before from out (o .engine) (k + 1) (at + length l + 1) next
       run-on written = record {
         within = omega (arith, whole-line);
         short = run .short;
@@ -132,7 +132,7 @@ module _ {s before after : List ℕ} {from : ℕ} {e : Engine} {k at end : ℕ} 
         rest = rest-less (run .rest) results-here written;
       }
 
-pub run-end : {s before after : List ℕ} {from : ℕ} {e : Engine} {k at end : ℕ} → RunTo s before from after e k at end
+pub run-end : {s before after : List ℕ} {from : ℕ} {e : Engine} {k at end : ℕ} → RanTo s before from after e k at end
     → length s ≤ at
     → Written before after from (commandResults s) end
 unfolding historyFrom

@@ -7,12 +7,12 @@ use lib.ListN.{length}
 use borrow.Author.Needs.{needs}
 use Rattle.model.specs.declared.Outcome.{Outcome}
 use Rattle.engine.specs.Stepped.{Stepped}
-use Rattle.runner.proofs.Turns.{RunTo, run-start, quiet-stepped, whole-line, line-room, run-on, run-end}
+use Rattle.runner.proofs.Turns.{RanTo, run-start, quiet-stepped, whole-line, line-room, run-on, run-end}
 use Rattle.runner.proofs.put_results.Statement.{statement}
 use Rattle.runner.proofs.put_results.Tie as tie
 
 abbrev Inv-loop : tie.InvT-loop
-Inv-loop s out₀ from e₀ k₀ at₀ end₀ answer₀ out e k at end answer = RunTo s out₀ from out e k at end
+Inv-loop s out₀ from e₀ k₀ at₀ end₀ answer₀ out e k at end answer = RanTo s out₀ from out e k at end
 
 abbrev μ-loop : tie.MeasureT-loop
 μ-loop s out₀ from e₀ k₀ at₀ end₀ answer₀ out e k at end answer = length s - at
