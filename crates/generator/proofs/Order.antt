@@ -1,36 +1,40 @@
 -- The order of a pending instant and a time shown. The places after the first that differs add up to less than one
 -- of it, so that place alone decides.
 use Prim.Native.Nat.{ℕ, _+_, _*_, _<_, _≤_, _^_}
-use mathlib.Core.Path.{_≡_, ap, sym, _∙_}
-use mathlib.Core.Bool.{Bool, _||_, _&&_}
+use mathlib.Core.Path.{_≡_, ap}
+use mathlib.Core.Bool.{Bool, cond}
 use native.Mathlib.Omega.{arith}
 use native.Mathlib.Nat.{mul-le-mul-right}
+use native.Mathlib.Decide.{ℕ-discrete}
 use lib.Dec.{ltb, eqb}
-use borrow.Author.Tests.{lt-ltb, le-ltb}
+use borrow.Author.Tests.{eq-eqb, ne-eqb}
 use Rattle.model.specs.declared.Clock.{Clock}
 use Rattle.model.specs.declared.Generator.{Generator}
 use Rattle.model.specs.Clock.{shown}
 use Rattle.model.specs.Generator.{isBefore, pendingTotal}
-use Rattle.tests.proofs.Places.{by-place, same-test}
+use Rattle.tests.proofs.Places.{same-test}
 use Rattle.generator.specs.Advance.{Comparable}
 
--- x is below y, or equal with the rest deciding
+-- x and y decide where they differ, else the rest does
 abbrev firstBefore : ℕ → ℕ → Bool → Bool
-firstBefore x y rest = ltb x y || (eqb x y && rest)
+firstBefore x y rest = cond (eqb x y) rest (ltb x y)
 
 -- x of m and u below m, against y and v
-first-decides : (m x y u v : ℕ) → u < m → v < m → ltb (x * m + u) (y * m + v) ≡ firstBefore x y (ltb u v)
+first-decides : (m x y u v : ℕ) → u < m → v < m → firstBefore x y (ltb u v) ≡ ltb (x * m + u) (y * m + v)
 first-decides m x y u v u-low v-low =
-    sym (by-place x y (ltb u v) (ltb (x * m + u) (y * m + v))
-    (λ h. lt-ltb (x * m + u) (y * m + v) (omega (arith, one-more x y h)))
-    (λ h. le-ltb (x * m + u) (y * m + v) (omega (arith, one-more y x h)))
-    (λ e. same-test (x * m + u) (y * m + v) u v (λ l. omega (arith, level e)) (λ l. omega (arith, level e))))
+    elim (ℕ-discrete x y) [
+      | yes e ↦
+          let level : x * m ≡ y * m = ap (λ (z : ℕ). z * m) e in
+          rw (eq-eqb x y e) (same-test u v (x * m + u) (y * m + v) (λ l. omega arith) (λ l. omega arith))
+      | no n ↦
+          rw (ne-eqb x y n)
+          (same-test x y (x * m + u) (y * m + v)
+          (λ l. omega (arith, one-more x y l))
+          (λ l. omega (arith, one-more y x (omega arith))))
+    ]
   where
     one-more : (a b : ℕ) → a < b → (a + 1) * m ≤ b * m
     one-more a b h = mul-le-mul-right m (omega arith)
-
-    level : x ≡ y → x * m ≡ y * m
-    level e = ap (λ (z : ℕ). z * m) e
 
 -- seconds, then nanoseconds, then the parts of a nanosecond
 pub placewise : {g : Generator} {k : Clock} → Comparable g k
@@ -54,7 +58,7 @@ placewise {g} {k} h =
     let time-places : shown k * d ≡ k .seconds * (1000000000 * m) + above = omega arith in
     let first = first-decides (1000000000 * m) (e .seconds) (k .seconds) below above (omega arith) (omega arith) in
     let second = first-decides m (e .nanoseconds) (k .nanoseconds) u v (omega arith) (omega arith) in
-    sym (rw (pending-places, time-places) (first ∙ ap (firstBefore (e .seconds) (k .seconds)) second))
+    rw (second, first, pending-places, time-places)
 
 -- a byte's part of a 32-bit denominator
 pub part-low : {g : Generator} {k : Clock} → Comparable g k → k .fraction * g .denominator < 2 ^ 40

@@ -12,7 +12,6 @@ use model::Generator;
 use model::Instant;
 use model::NS_PER_SECOND;
 use model::SECONDS_LIMIT;
-use tests::both;
 use tests::either;
 
 // What a tick makes of a generator: the code of its edge or 0, the generator after it, and whether EC and SC are
@@ -48,19 +47,13 @@ pub fn is_before(g: Generator, k: Clock) -> bool
     requires { ⌜ Comparable g k ⌝ }
     ensures { λ r. ⌜ r ≡ isBefore g (shown k) ⌝ }
 {
-    either(
-        g.pending.seconds < k.seconds,
-        both(
-            g.pending.seconds == k.seconds,
-            either(
-                g.pending.nanoseconds < k.nanoseconds,
-                both(
-                    g.pending.nanoseconds == k.nanoseconds,
-                    g.pending.remainder * 256 < k.fraction * g.denominator,
-                ),
-            ),
-        ),
-    )
+    if g.pending.seconds != k.seconds {
+        return g.pending.seconds < k.seconds;
+    }
+    if g.pending.nanoseconds != k.nanoseconds {
+        return g.pending.nanoseconds < k.nanoseconds;
+    }
+    g.pending.remainder * 256 < k.fraction * g.denominator
 }
 
 // floor(8 × (E - A) / S), with E - A in 1/(256 D) ns: it is below the step, so it is small.

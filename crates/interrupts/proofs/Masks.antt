@@ -13,7 +13,7 @@ use borrow.Author.Tests.{eqb-true, eq-eqb}
 use Rattle.model.specs.Interrupts.{bit, onlyBits}
 use Rattle.model.proofs.Laws.Bits.{only-bits-lt, only-bits-le, only-bits-from}
 
-le-or : (x y : ℕ) → x ≤ bitOr x y
+pub le-or : (x y : ℕ) → x ≤ bitOr x y
 le-or x y = omega (arith, or-add-and x y, and-le-r x y)
 
 bit-le-or : (j x y : ℕ) → bit j x ≤ bit j (bitOr x y)
@@ -30,7 +30,7 @@ or-absorbs (suc n) mask word l h =
     rest j i = rw (shr-shr word 1 j, shr-shr mask 1 j) (h (1 + j) (omega arith))
 
 -- tests that imply each other are one
-both-ways : (a b : Bool) → (a ≡ true → b ≡ true) → (b ≡ true → a ≡ true) → a ≡ b
+pub both-ways : (a b : Bool) → (a ≡ true → b ≡ true) → (b ≡ true → a ≡ true) → a ≡ b
 both-ways true b f g = sym (f refl)
 both-ways false true f g = g refl
 both-ways false false f g = refl

@@ -68,6 +68,10 @@ pub fn interrupt_word(latched: u64, enabled: u64) -> u64
     requires { ⌜ latched < 2 ^ 16 ⌝ }
     ensures { λ r. ⌜ r ≡ interruptWord latched enabled ⌝ }
 {
+    // With no bit enabled, as in most records, there is nothing to look for.
+    if enabled == 0 {
+        return latched;
+    }
     if any_both(latched, enabled) {
         latched + 0x4000
     } else {

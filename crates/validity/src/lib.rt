@@ -1,13 +1,16 @@
 // The record's check: number 4. One function for each part of the record, and the whole. Each returns a definition
-// of the model's specs/Ranges.antt. The clock comes first: a pending instant is compared with it place by place.
-// Document 01, "Where each command is checked", below the table.
+// of the model's specs/Ranges.antt. The clock comes first: a pending instant is compared with it place by place. The
+// three FIFOs are looked at together, in straight loops over the eight places, which the compiler can make code of
+// with no branch and no copy. Document 01, "Where each command is checked", below the table.
 ghost use mathlib.Core.Path.{_≡_};
-ghost use mathlib.Core.Bool.{true, cond};
+ghost use Prim.Native.Nat.{max};
+ghost use lib.Dec.{eqb};
 ghost use Rattle.model.specs.Tests.{every};
 ghost use Rattle.model.specs.Clock.{shown};
 ghost use Rattle.model.specs.Bounds.{ClockIn};
 ghost use Rattle.model.specs.Ranges.{clockOk, amountOk, adjustmentOk, steeringOk, timestampOk, timestampZero, fifoOk};
 ghost use Rattle.model.specs.Ranges.{runningTests, idleTests, generatorOk, interruptsOk, wordsOk, valid};
+ghost use Rattle.validity.specs.Fifos.{ofThree, placesBelow, restBelow};
 use model::Adjustment;
 use model::Clock;
 use model::ENABLED_MASK;
@@ -26,6 +29,7 @@ use model::WORD_LIMIT;
 use model::Words;
 use tests::both;
 use tests::fails;
+use tests::pick;
 
 fn clock_ok(k: Clock) -> bool
     ensures { λ r. ⌜ r ≡ clockOk k ⌝ }
@@ -62,43 +66,105 @@ fn steering_ok(s: Steering) -> bool
     both(amount_ok(s.period), adjustment_ok(s.adjustment))
 }
 
-fn timestamp_ok(t: Timestamp) -> bool
-    ensures { λ r. ⌜ r ≡ timestampOk t ⌝ }
+// The larger of two numbers.
+fn larger(x: u64, y: u64) -> u64
+    ensures { λ r. ⌜ r ≡ max x y ⌝ }
 {
+    if x < y { y } else { x }
+}
+
+// Every bit that a timestamp has set: 0 just for the zero timestamp.
+fn bits_of(t: Timestamp) -> u64
+    ensures { λ r. ⌜ eqb r 0 ≡ timestampZero t ⌝ }
+{
+    t.seconds | t.nanoseconds | t.rising
+}
+
+// Every place of the three FIFOs holds zero.
+fn all_free(fifo1: Fifo, fifo2: Fifo, fifo3: Fifo) -> bool
+    ensures { λ r. ⌜ r ≡ ofThree (placesBelow 8 timestampZero) fifo1 fifo2 fifo3 ⌝ }
+{
+    let mut seen = 0u64;
+    let mut place = 0;
+    while place < 8 {
+        seen = seen
+            | bits_of(fifo1.entries[place])
+            | bits_of(fifo2.entries[place])
+            | bits_of(fifo3.entries[place]);
+        place += 1;
+    }
+    seen == 0
+}
+
+// Every place of the three FIFOs holds a timestamp in range; zero is one. The `|` of numbers is below a power of 2
+// just where all of them are, and the largest of them is below any limit just where all are.
+fn in_range(fifo1: Fifo, fifo2: Fifo, fifo3: Fifo) -> bool
+    ensures { λ r. ⌜ r ≡ ofThree (placesBelow 8 timestampOk) fifo1 fifo2 fifo3 ⌝ }
+{
+    let mut seconds = 0u64;
+    let mut nanoseconds = 0u64;
+    let mut rising = 0u64;
+    let mut place = 0;
+    while place < 8 {
+        let t1 = fifo1.entries[place];
+        let t2 = fifo2.entries[place];
+        let t3 = fifo3.entries[place];
+        seconds = seconds | t1.seconds | t2.seconds | t3.seconds;
+        nanoseconds = larger(
+            larger(larger(nanoseconds, t1.nanoseconds), t2.nanoseconds),
+            t3.nanoseconds,
+        );
+        rising = rising | t1.rising | t2.rising | t3.rising;
+        place += 1;
+    }
     both(
-        t.seconds < SECONDS_LIMIT,
-        both(t.nanoseconds < NS_PER_SECOND, t.rising <= 1),
+        seconds < SECONDS_LIMIT,
+        both(nanoseconds < NS_PER_SECOND, rising <= 1),
     )
 }
 
-fn timestamp_zero(t: Timestamp) -> bool
-    ensures { λ r. ⌜ r ≡ timestampZero t ⌝ }
+// Every place of the three FIFOs that is not used holds zero. A reach is how many places there are up to the last that
+// does not hold zero.
+fn rest_free(fifo1: Fifo, fifo2: Fifo, fifo3: Fifo) -> bool
+    ensures { λ r. ⌜ r ≡ ofThree (restBelow 8) fifo1 fifo2 fifo3 ⌝ }
 {
-    both(t.seconds == 0, both(t.nanoseconds == 0, t.rising == 0))
+    let mut reach1 = 0u64;
+    let mut reach2 = 0u64;
+    let mut reach3 = 0u64;
+    let mut place = 0;
+    while place < 8 {
+        let t1 = fifo1.entries[place];
+        let t2 = fifo2.entries[place];
+        let t3 = fifo3.entries[place];
+        place += 1;
+        reach1 = pick(bits_of(t1) == 0, reach1, place as u64);
+        reach2 = pick(bits_of(t2) == 0, reach2, place as u64);
+        reach3 = pick(bits_of(t3) == 0, reach3, place as u64);
+    }
+    both(
+        reach1 <= fifo1.count,
+        both(reach2 <= fifo2.count, reach3 <= fifo3.count),
+    )
 }
 
-// A place of a FIFO holds a timestamp where it is used, and zero where it is not.
-fn place_ok(t: Timestamp, used: bool) -> bool
-    ensures { λ r. ⌜ r ≡ cond used (timestampOk t) (timestampZero t) ⌝ }
+// A used place holds a timestamp in range and any other holds zero, so that every place is in range. Most FIFOs are
+// empty or full, hence the shortcuts: three empty ones have no used place, and three full ones no other.
+fn fifos_ok(fifo1: Fifo, fifo2: Fifo, fifo3: Fifo) -> bool
+    ensures { λ r. ⌜ r ≡ ofThree fifoOk fifo1 fifo2 fifo3 ⌝ }
 {
-    if used {
-        timestamp_ok(t)
-    } else {
-        timestamp_zero(t)
+    if both(fifo1.count == 0, both(fifo2.count == 0, fifo3.count == 0)) {
+        return all_free(fifo1, fifo2, fifo3);
     }
-}
-
-fn fifo_ok(f: Fifo) -> bool
-    ensures { λ r. ⌜ r ≡ fifoOk f ⌝ }
-{
-    let mut ok = true;
-    let mut i = 0;
-    while i < 8 {
-        let t = f.entries[i];
-        ok = both(ok, place_ok(t, (i as u64) < f.count));
-        i += 1;
+    if !in_range(fifo1, fifo2, fifo3) {
+        return false;
     }
-    both(f.count <= 8, ok)
+    if both(fifo1.count == 8, both(fifo2.count == 8, fifo3.count == 8)) {
+        return true;
+    }
+    both(
+        rest_free(fifo1, fifo2, fifo3),
+        both(fifo1.count <= 8, both(fifo2.count <= 8, fifo3.count <= 8)),
+    )
 }
 
 // Op 3's limits, and the pending instant.
@@ -171,26 +237,17 @@ fn words_ok(w: Words) -> bool
     )
 }
 
-// The parts of a record whose clock is in range.
-fn parts_ok(e: Engine) -> bool
-    requires { ⌜ clockOk (e .clock) ≡ true ⌝ }
+pub fn is_valid(e: Engine) -> bool
     ensures { λ r. ⌜ r ≡ valid e ⌝ }
 {
-    let fifos = both(fifo_ok(e.fifo1), both(fifo_ok(e.fifo2), fifo_ok(e.fifo3)));
+    if !clock_ok(e.clock) {
+        return false;
+    }
+    let fifos = fifos_ok(e.fifo1, e.fifo2, e.fifo3);
     let generators = both(
         generator_ok(e.generator1, e.clock),
         generator_ok(e.generator2, e.clock),
     );
     let rest = both(interrupts_ok(e.interrupts), words_ok(e.words));
     both(steering_ok(e.steering), both(fifos, both(generators, rest)))
-}
-
-pub fn is_valid(e: Engine) -> bool
-    ensures { λ r. ⌜ r ≡ valid e ⌝ }
-{
-    if clock_ok(e.clock) {
-        parts_ok(e)
-    } else {
-        false
-    }
 }

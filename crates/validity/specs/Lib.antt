@@ -1,0 +1,2 @@
+-- What the functions over three FIFOs test.
+pub mod Fifos
