@@ -1,2 +1,3 @@
--- What the run of a sheet leaves in the buffer.
+-- A result of zeros, and what the run of a sheet leaves in the buffer.
+pub mod Zeros
 pub mod Ran

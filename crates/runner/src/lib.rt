@@ -8,15 +8,37 @@ ghost use Rattle.model.specs.Sheet.{sheetAccepted, sheetVerdict};
 ghost use Rattle.model.specs.Results.{resultLine, commandResults};
 ghost use Rattle.writing.specs.Written.{Written};
 ghost use Rattle.runner.specs.Ran.{Ran};
+ghost use Rattle.runner.specs.Zeros.{allZero};
 use model::Words;
+use tests::both;
 
 // The first line of the results, its line end included.
 const HEAD: [u8; 27] = *b"line,answer,v1,v2,v3,v4,v5\n";
+
+// What stands behind the line number where answer and values are 0, as in most results.
+const NO_VALUES: [u8; 13] = *b",0,0,0,0,0,0\n";
+
+// Answer and values are 0.
+fn all_zero(answer: u64, v: Words) -> bool
+    ensures { λ r. ⌜ r ≡ allZero answer v ⌝ }
+{
+    both(
+        answer == 0,
+        both(
+            v.w1 == 0,
+            both(v.w2 == 0, both(v.w3 == 0, both(v.w4 == 0, v.w5 == 0))),
+        ),
+    )
+}
 
 fn put_result(out: &mut [u8], at: usize, line: u64, answer: u64, v: Words) -> usize
     requires { ⌜ at + length (resultLine line answer v) ≤ length (now out) ⌝ }
     ensures { λ r. ⌜ Written (now (out .entry)) (now (out .exit)) at (resultLine line answer v) r ⌝ }
 {
+    if all_zero(answer, v) {
+        let next = writing::put_number(out, at, line);
+        return writing::put_bytes(out, next, &NO_VALUES);
+    }
     writing::put_row(out, at, &[line, answer, v.w1, v.w2, v.w3, v.w4, v.w5])
 }
 

@@ -6,7 +6,7 @@ use mathlib.Core.List.{List, [], _∷_, _++_, append-assoc, append-nil}
 use native.Mathlib.Numerals.{add-one}
 use native.Mathlib.Nat.{add-zero, add-assoc, le-refl}
 use native.Mathlib.Omega.{arith}
-use lib.ListN.{length, set, length-append, take-append-drop}
+use lib.ListN.{length, set, length-set, length-append, take-append-drop}
 use lib.Seq.{take-length, drop-drop, set-split, paste, length-paste, take-paste, drop-paste}
 use Rattle.writing.specs.Written.{put, Written}
 
@@ -45,6 +45,13 @@ written-then {before} {a} {b} {at} first second fits = record {
   end = rw length-append (omega arith);
   holds = second .holds ∙ rw (first .holds, first .end) (put-put before a b at fits);
 }
+
+pub written-bytes : (out : List ℕ) (at a b : ℕ) → at + 2 ≤ length out
+    → Written out (set (set out at a) (at + 1) b) at (a ∷ b ∷ []) (at + 2)
+written-bytes out at a b room =
+    let first = written-byte out at a (omega arith) in
+    let second = written-byte (set out at a) (at + 1) b (rw length-set (omega arith)) in
+    record { end = refl; holds = written-then first second (omega arith) .holds }
 
 -- a rest of the text is to be written at the next index: with it, the buffer is the one with the whole text
 pub record Rest (before after : List ℕ) (at : ℕ) (text : List ℕ) (next : ℕ) (rest : List ℕ) : Type 0 where

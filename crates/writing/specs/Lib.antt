@@ -1,2 +1,3 @@
--- What a writer leaves in a buffer.
+-- A pair of digits, and what a writer leaves in a buffer.
+pub mod Pair
 pub mod Written

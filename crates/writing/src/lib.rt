@@ -4,6 +4,7 @@ ghost use Prim.Native.Nat.{_+_, _<_, _≤_};
 ghost use mathlib.Core.List.{[], _∷_};
 ghost use lib.ListN.{length};
 ghost use Rattle.model.specs.Text.{decimal, row};
+ghost use Rattle.writing.specs.Pair.{pair};
 ghost use Rattle.writing.specs.Written.{Written};
 
 fn put_byte(out: &mut [u8], at: usize, b: u8) -> usize
@@ -39,13 +40,35 @@ fn put_decimal(out: &mut [u8], at: usize, n: u64) -> usize
     put_byte(out, next, 48 + ((n % 10) as u8))
 }
 
-// A number; most have one digit.
-fn put_number(out: &mut [u8], at: usize, n: u64) -> usize
+// The tens and the units.
+fn put_pair(out: &mut [u8], at: usize, n: u64) -> usize
+    requires { ⌜ n < 100 ⌝ }
+    requires { ⌜ at + 2 ≤ length (now out) ⌝ }
+    ensures { λ r. ⌜ Written (now (out .entry)) (now (out .exit)) at (pair n) r ⌝ }
+{
+    out[at] = 48 + ((n / 10) as u8);
+    out[at + 1] = 48 + ((n % 10) as u8);
+    at + 2
+}
+
+// A number; most have one digit, and line numbers up to four.
+pub fn put_number(out: &mut [u8], at: usize, n: u64) -> usize
     requires { ⌜ at + length (decimal n) ≤ length (now out) ⌝ }
     ensures { λ r. ⌜ Written (now (out .entry)) (now (out .exit)) at (decimal n) r ⌝ }
 {
     if n < 10 {
         return put_byte(out, at, 48 + (n as u8));
+    }
+    if n < 100 {
+        return put_pair(out, at, n);
+    }
+    if n < 1000 {
+        let next = put_byte(out, at, 48 + ((n / 100) as u8));
+        return put_pair(out, next, n % 100);
+    }
+    if n < 10000 {
+        let next = put_pair(out, at, n / 100);
+        return put_pair(out, next, n % 100);
     }
     put_decimal(out, at, n)
 }
