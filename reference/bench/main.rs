@@ -18,8 +18,7 @@ extern "C" {
 
 #[link(name = "tick_bench", kind = "static")]
 extern "C" {
-    fn tick_bench_step(n: u64, cycles: u64, edges: u64, code: u64) -> u64;
-    fn tick_bench_execute(n: u64, cycles: u64, edges: u64, code: u64) -> u64;
+    fn tick_bench_ticks(n: u64, cycles: u64, edges: u64, code: u64, checked: u64) -> u64;
 }
 
 fn command(op: u64, fields: &[u64]) -> Command {
@@ -100,11 +99,11 @@ const ROWS: [Row; 9] = [
 fn work(row: &Row, n: u64, ours: bool) -> u64 {
     if row.lines == 0 {
         let [cycles, edges, code] = black_box(orders(row.busy));
-        // SAFETY: they take numbers.
-        black_box(match (ours, row.checked) {
-            (true, false) => unsafe { tick_bench_step(n, cycles, edges, code) },
-            (true, true) => unsafe { tick_bench_execute(n, cycles, edges, code) },
-            _ => tuned_ticks(n, [cycles, edges, code], row.checked),
+        black_box(if ours {
+            // SAFETY: it takes numbers.
+            unsafe { tick_bench_ticks(n, cycles, edges, code, row.checked.into()) }
+        } else {
+            tuned_ticks(n, [cycles, edges, code], row.checked)
         });
         return n;
     }

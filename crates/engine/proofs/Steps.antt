@@ -1,34 +1,44 @@
--- On a valid record the model's outcome has a valid record again; a record that is not valid is refused with 4; and
--- the latched bits of an accepted command's record are 16 bits.
-use Prim.Native.Nat.{_<_, _^_}
-use mathlib.Core.Path.{_≡_, _∙_}
+-- Accepted or refused, a change is the model's outcome, which has a valid record again where the record was valid; a
+-- record that is not valid is refused with 4; and the latched bits of an accepted command's record are 16 bits.
+use Prim.Native.Nat.{ℕ, _<_, _^_}
+use mathlib.Core.Path.{_≡_, refl, ap, _∙_}
 use mathlib.Core.Bool.{true, false}
 use borrow.Author.Tests.{eq-eqb, ne-eqb}
 use Rattle.model.specs.declared.Engine.{Engine}
 use Rattle.model.specs.declared.Command.{Command}
-use Rattle.model.specs.declared.Outcome.{Outcome}
+use Rattle.model.specs.Words.{noWords}
 use Rattle.model.specs.Ranges.{valid}
 use Rattle.model.specs.Checks.{checks, answerOf}
-use Rattle.model.specs.Execute.{execute, performed, refused}
+use Rattle.model.specs.Execute.{execute, performed, commanded, refused}
 use Rattle.model.proofs.Laws.Ranges.{valid-parts}
 use Rattle.model.proofs.Laws.Parts.{interrupts-in}
 use Rattle.model.proofs.Laws.Bits.{only-bits-lt}
 use Rattle.model.proofs.Laws.Checks.{accepted-facts}
 use Rattle.model.proofs.Laws.Valid.{execute-valid}
+use Rattle.change.specs.declared.Change.{Change}
+use Rattle.change.specs.Changes.{changeTo, outcomeOf, Gives}
+use Rattle.change.proofs.Given.{refused-gives}
 use Rattle.engine.specs.Stepped.{Stepped}
 
 module _ (e : Engine) (c : Command) where
-  keeps : (r : Outcome) → valid e ≡ true → r ≡ execute e c → Stepped e c r
-  keeps r v h = record { is = h; keeps = rw h (execute-valid e c v) }
+  pub performed-command : c .op ≡ 2 → performed e c ≡ commanded e (c .a) (c .b)
+  unfolding performed
+  performed-command o = rw o refl
 
-  pub accepted-step : (r : Outcome) → valid e ≡ true → answerOf e c ≡ 0 → r ≡ performed e c → Stepped e c r
+  pub accepted-gives : {m : Change} → answerOf e c ≡ 0 → Gives e c (performed e c) m → Gives e c (execute e c) m
   unfolding execute
-  accepted-step r v a h = keeps r v (h ∙ rw (eq-eqb _ _ a))
+  accepted-gives a g = rw (eq-eqb _ _ a) g
 
-  pub refused-step : (r : Outcome) → valid e ≡ true → (answerOf e c ≡ 0 → ⊥) → r ≡ refused e (answerOf e c)
-      → Stepped e c r
+  pub order-refused : (n : ℕ) → n ≡ answerOf e c → (n ≡ 0 → ⊥) → Gives e c (execute e c) (changeTo n noWords e false)
   unfolding execute
-  refused-step r v a h = keeps r v (h ∙ rw (ne-eqb _ _ a))
+  order-refused n is some = rw is (refused-gives e c _ _ (rw (ne-eqb _ _ (λ z. some (is ∙ z))) refl))
+
+  -- a valid record stays valid
+  pub gives-stepped : {m : Change} → valid e ≡ true → Gives e c (execute e c) m → Stepped e c (outcomeOf e c m)
+  gives-stepped v g = record {
+    is = g .is;
+    keeps = ap (λ o. valid (o .engine)) (g .is) ∙ execute-valid e c v;
+  }
 
   pub malformed : valid e ≡ false → refused e 4 ≡ execute e c
   unfolding execute answerOf checks

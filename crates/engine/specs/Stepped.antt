@@ -1,11 +1,18 @@
--- One command on a valid record: the model's outcome, with a record that is valid again.
+-- An accepted command that is no tick; and one command on a valid record: the model's outcome, with a record that is
+-- valid again.
 use mathlib.Core.Path.{_≡_}
-use mathlib.Core.Bool.{true}
+use mathlib.Core.Bool.{true, false}
+use lib.Dec.{eqb}
 use Rattle.model.specs.declared.Engine.{Engine}
 use Rattle.model.specs.declared.Command.{Command}
 use Rattle.model.specs.declared.Outcome.{Outcome}
 use Rattle.model.specs.Ranges.{valid}
+use Rattle.model.specs.Checks.{answerOf}
 use Rattle.model.specs.Execute.{execute}
+
+pub record Ordered (e : Engine) (c : Command) : Type 0 where
+  pub passed : answerOf e c ≡ 0
+  pub order : eqb (c .op) 0 ≡ false
 
 pub record Stepped (e : Engine) (c : Command) (r : Outcome) : Type 0 where
   pub is : r ≡ execute e c

@@ -1,13 +1,17 @@
-// The time engine: power-on, one command on any record, and one command on a record that is known to be valid. They
-// are the model's powerOn and execute, for every record and every command. Document 01, "Command sheet" and "Where
-// each command is checked".
+// The time engine: power-on; what a command changes of a valid record, for callers that keep it in place; and one
+// command on a valid record or on any, by value. They are the model's powerOn and execute, for every record and every
+// command. Document 01, "Command sheet" and "Where each command is checked".
 ghost use mathlib.Core.Path.{_≡_};
-ghost use mathlib.Core.Bool.{true};
+ghost use mathlib.Core.Bool.{true, false};
+ghost use lib.Dec.{eqb};
 ghost use Rattle.model.specs.Record.{powerOn};
 ghost use Rattle.model.specs.Ranges.{valid};
-ghost use Rattle.model.specs.Checks.{answerOf};
 ghost use Rattle.model.specs.Execute.{refused as refusedSpec, performed, execute as executeSpec};
-ghost use Rattle.engine.specs.Stepped.{Stepped};
+ghost use Rattle.change.specs.Changes.{fifosMoved, Moving, Gives};
+ghost use Rattle.engine.specs.Stepped.{Ordered, Stepped};
+use change::Change;
+use change::apply;
+use change::change_to;
 use model::Command;
 use model::Engine;
 use model::Interrupts;
@@ -39,25 +43,13 @@ pub fn power_on() -> Engine
     }
 }
 
-// A refusal: the number, five zeros, the same record.
-fn refused(e: Engine, n: u64) -> Outcome
-    ensures { λ r. ⌜ r ≡ refusedSpec e n ⌝ }
-{
-    Outcome {
-        answer: n,
-        values: words::no_words(),
-        engine: e,
-    }
-}
-
-// An accepted command, by its op.
-fn perform(e: Engine, c: Command) -> Outcome
-    requires { ⌜ answerOf e c ≡ 0 ⌝ }
-    ensures { λ r. ⌜ r ≡ performed e c ⌝ }
+// An accepted command that is no tick, by its op.
+fn perform(e: Engine, c: Command) -> Change
+    requires { ⌜ Ordered e c ⌝ }
+    ensures { λ r. ⌜ Gives e c (performed e c) r ⌝ }
 {
     let op = c.op;
     match op {
-        0 => tick::tick(e, c),
         1 => ops::load_words(e, c),
         2 => ops::command(e, c),
         3 => ops::arm(e, c),
@@ -69,16 +61,69 @@ fn perform(e: Engine, c: Command) -> Outcome
     }
 }
 
+// A command that is no tick, on a valid record: a refusal changes nothing.
+pub fn order(e: Engine, c: Command) -> Change
+    requires { ⌜ valid e ≡ true ⌝ }
+    requires { ⌜ eqb (c .op) 0 ≡ false ⌝ }
+    ensures { λ r. ⌜ Gives e c (executeSpec e c) r ⌝ }
+{
+    let answer = checks::answer(e, c);
+    if answer == 0 {
+        return perform(e, c);
+    }
+    change_to(answer, words::no_words(), e, false)
+}
+
+// What a command changes of a valid record.
+pub fn change_by(e: Engine, c: Command) -> Change
+    requires { ⌜ valid e ≡ true ⌝ }
+    ensures { λ r. ⌜ Gives e c (executeSpec e c) r ⌝ }
+{
+    if c.op == 0 {
+        tick::tick(e, c)
+    } else {
+        order(e, c)
+    }
+}
+
+// The record with its FIFOs moved, where a change says that one moves.
+pub fn move_fifos(e: Engine, c: Command) -> Engine
+    requires { ⌜ Moving e c ⌝ }
+    ensures { λ r. ⌜ r ≡ fifosMoved e c ⌝ }
+{
+    if c.op == 0 {
+        tick::store_timestamps(e, c)
+    } else {
+        ops::take_timestamp(e, c.b)
+    }
+}
+
 // One command on a valid record, which stays valid: for callers that run many, and check the record once.
 pub fn step(e: Engine, c: Command) -> Outcome
     requires { ⌜ valid e ≡ true ⌝ }
     ensures { λ r. ⌜ Stepped e c r ⌝ }
 {
-    let answer = checks::answer(e, c);
-    if answer == 0 {
-        perform(e, c)
-    } else {
-        refused(e, answer)
+    let m = change_by(e, c);
+    let values = m.values;
+    let mut moved = e;
+    if m.moves {
+        moved = move_fifos(e, c);
+    }
+    Outcome {
+        answer: m.answer,
+        values: values,
+        engine: apply(moved, m),
+    }
+}
+
+// A refusal: the number, five zeros, the same record.
+fn refused(e: Engine, n: u64) -> Outcome
+    ensures { λ r. ⌜ r ≡ refusedSpec e n ⌝ }
+{
+    Outcome {
+        answer: n,
+        values: words::no_words(),
+        engine: e,
     }
 }
 

@@ -38,7 +38,7 @@ fn is_generator(n: u64) -> bool
 }
 
 // Op 0: the codes of inputs 1 to 3.
-fn tick_fields(c: Command) -> bool
+pub fn tick_fields(c: Command) -> bool
     ensures { λ r. ⌜ r ≡ every (tickFields c) ⌝ }
 {
     both(c.a <= 16, both(c.b <= 16, both(c.c <= 16, zero_from_d(c))))

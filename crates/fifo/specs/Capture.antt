@@ -1,15 +1,17 @@
--- An input edge in a tick: what is asked of the FIFO and the clock, and what the tick makes of the FIFO. Document
--- 01, "Stamps and generators".
+-- An input edge in a tick: what is asked of the FIFO and the clock, and what becomes of the edge. Document 01, "Stamps
+-- and generators".
 use mathlib.Core.Path.{_≡_}
 use Prim.Native.Nat.{ℕ, _+_, _*_, _<_, _≤_}
+use mathlib.Core.Bool.{_||_, not}
+use lib.Dec.{eqb}
 use lib.ListN.{set}
 use Rattle.model.specs.declared.Clock.{Clock}
 use Rattle.model.specs.declared.Fifo.{Fifo}
 use Rattle.model.specs.declared.Timestamp.{Timestamp}
 use Rattle.model.specs.Edges.{codeEighth}
-use Rattle.model.specs.Fifo.{captured, capturesFirst, overflows}
+use Rattle.model.specs.Fifo.{isFull, capturesFirst, overflows}
 use Rattle.model.specs.Bounds.{ClockIn}
-use Rattle.fifo.specs.declared.Captured.{Captured}
+use Rattle.fifo.specs.declared.Arrival.{Arrival}
 
 -- the eighth of a code, one of eight
 pub record EighthOf (code r : ℕ) : Type 0 where
@@ -37,10 +39,10 @@ pub record Capturing (k : Clock) (step code : ℕ) : Type 0 where
 abbrev pub pushed : Fifo → Timestamp → Fifo
 pushed f t = record { entries = set (f .entries) (f .count) t; count = f .count + 1 }
 
--- what an input's code makes of a FIFO in a tick of step s from the time shown a
-unfoldable pub captureOf : Fifo → ℕ → ℕ → ℕ → Captured
-captureOf f a s code = record {
-  fifo = captured f a s code;
+-- what becomes of an input's code at a FIFO
+unfoldable pub arrivalOf : Fifo → ℕ → Arrival
+arrivalOf f code = record {
+  stored = not (eqb code 0 || isFull f);
   first = capturesFirst f code;
   overflow = overflows f code;
 }

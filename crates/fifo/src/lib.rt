@@ -4,17 +4,17 @@
 ghost use mathlib.Core.Path.{_≡_};
 ghost use Prim.Native.Nat.{_+_, _<_, _≤_};
 ghost use Rattle.model.specs.Clock.{shown};
-ghost use Rattle.model.specs.Fifo.{emptyFifo, noTimestamp, isEmpty, entry, timestampOf, popped};
-ghost use Rattle.fifo.specs.Capture.{EighthOf, OffsetOf, Stamping, Capturing, pushed, captureOf};
+ghost use Rattle.model.specs.Fifo.{emptyFifo, noTimestamp, isEmpty, entry, timestampOf, captured, popped};
+ghost use Rattle.fifo.specs.Capture.{EighthOf, OffsetOf, Stamping, Capturing, pushed, arrivalOf};
 use model::Clock;
 use model::Fifo;
 use model::NS_PER_SECOND;
 use model::Timestamp;
 use tests::pick;
 
-// What a tick makes of a FIFO: the FIFO after it, and whether NE and OF are set.
-pub struct Captured {
-    pub fifo: Fifo,
+// What becomes of an input's edge in a tick: stored, and perhaps the first in its FIFO (NE), or dropped (OF).
+pub struct Arrival {
+    pub stored: bool,
     pub first: bool,
     pub overflow: bool,
 }
@@ -90,30 +90,43 @@ fn push(mut f: Fifo, t: Timestamp) -> Fifo
     f
 }
 
-// An input's code in a tick of a step from the clock k.
-pub fn capture(f: Fifo, k: Clock, step: u64, code: u64) -> Captured
-    requires { ⌜ Capturing k step code ⌝ }
-    ensures { λ r. ⌜ r ≡ captureOf f (shown k) step code ⌝ }
+// An input's code at a FIFO: no edge, one too many, or one that is stored.
+pub fn arrive(f: Fifo, code: u64) -> Arrival
+    ensures { λ r. ⌜ r ≡ arrivalOf f code ⌝ }
 {
     if code == 0 {
-        return Captured {
-            fifo: f,
+        return Arrival {
+            stored: false,
             first: false,
             overflow: false,
         };
     }
     if 8 <= f.count {
-        return Captured {
-            fifo: f,
+        return Arrival {
+            stored: false,
             first: false,
             overflow: true,
         };
     }
-    Captured {
-        fifo: push(f, timestamp(k, step, code)),
+    Arrival {
+        stored: true,
         first: f.count == 0,
         overflow: false,
     }
+}
+
+// The FIFO after an input's code in a tick of a step from the clock k.
+pub fn capture(f: Fifo, k: Clock, step: u64, code: u64) -> Fifo
+    requires { ⌜ Capturing k step code ⌝ }
+    ensures { λ r. ⌜ r ≡ captured f (shown k) step code ⌝ }
+{
+    if code == 0 {
+        return f;
+    }
+    if f.count < 8 {
+        return push(f, timestamp(k, step, code));
+    }
+    f
 }
 
 // The oldest is taken out: each other moves one place down, and the last place is free.

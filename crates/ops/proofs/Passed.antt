@@ -1,34 +1,106 @@
 -- An accepted command of op 2 has words in range; and a FIFO that it reads was found filled, which its write leaves
 -- alone.
 use Prim.Native.Nat.{ℕ, _<_}
-use mathlib.Core.Path.{_≡_}
-use mathlib.Core.Bool.{false}
+use mathlib.Core.Path.{_≡_, refl}
+use mathlib.Core.Bool.{Bool, true, false, not}
 use native.Mathlib.Omega.{arith}
 use lib.Dec.{eqb}
-use borrow.Author.Tests.{eqb-false}
+use borrow.Author.Tests.{not-true, eqb-false, ne-eqb}
 use Rattle.model.specs.declared.Engine.{Engine}
 use Rattle.model.specs.declared.Command.{Command}
 use Rattle.model.specs.Bounds.{WordsIn}
-use Rattle.model.specs.Execute.{written}
-use Rattle.model.proofs.Laws.Ranges.{Valid, valid-parts, words-in}
+use Rattle.model.specs.declared.Words.{Words}
+use Rattle.model.specs.Words.{noWords, timeWords}
+use Rattle.model.specs.Fifo.{entry}
+use Rattle.model.specs.Record.{withWords, fifo}
+use Rattle.model.specs.Checks.{readsFifo}
+use Rattle.model.specs.Execute.{accepted, written, stampWords, readWords, readEngine, commanded}
+use Rattle.model.proofs.Laws.Tests.{split}
+use Rattle.model.proofs.Laws.Ranges.{valid-parts, words-in}
 use Rattle.model.proofs.Laws.Parts.{fifo-at-ok}
-use Rattle.model.proofs.Laws.Checks.{accepted-facts}
-use Rattle.model.proofs.Laws.Valid.{fifo-written, fifo-filled}
-use Rattle.ops.specs.Reading.{Commands, Readable}
+use Rattle.model.proofs.Laws.Checks.{Accepted, accepted-facts}
+use Rattle.model.proofs.Laws.Valid.{reads-fifo, fifo-filled}
+use Rattle.change.specs.declared.Change.{Change}
+use Rattle.change.specs.Changes.{changeTo, applied, oldestTaken, outcomeOf, Gives}
+use Rattle.change.proofs.Given.{still-gives}
+use Rattle.ops.specs.Reading.{Commands, Readable, wordsRead}
 
 -- not empty is holding some
 pub some : (count : ℕ) → eqb count 0 ≡ false → 0 < count
 some count h = let n = eqb-false count 0 h in omega arith
 
 module _ (e : Engine) (c : Command) (k : Commands e c) where
-  parts : Valid e
-  parts = valid-parts e (accepted-facts e c (k .passed) .valid)
+  facts : Accepted e c
+  facts = accepted-facts e c (k .passed)
 
   pub words-within : WordsIn (e .words)
-  words-within = words-in (e .words) (parts .words)
+  words-within = words-in (e .words) (valid-parts e (facts .valid) .words)
 
-  pub readable : eqb (c .b) 8 ≡ false → Readable (written e (c .a)) (c .b)
-  readable n8 = record {
-    filled = λ n0. rw fifo-written (fifo-filled e c (k .op) (accepted-facts e c (k .passed)) n8 n0);
-    ok = rw fifo-written (fifo-at-ok e (c .b) parts);
-  }
+  -- no tick
+  ordered : eqb (c .op) 0 ≡ false
+  ordered = ne-eqb (c .op) 0 (λ z. omega (arith, k .op, z))
+
+  -- the write leaves the FIFOs alone, so its record is the change to it
+  pub written-gives : (now : Engine) → now ≡ written e (c .a) → eqb (c .b) 8 ≡ true
+      → Gives e c (commanded e (c .a) (c .b)) (changeTo 0 noWords now false)
+  unfolding commanded written
+  written-gives now is b8 = rw is (still-gives e c _ _ refl (rw b8
+      (split Same (eqb (c .a) 0) (λ y. refl) (λ y.
+      split Same (eqb (c .a) 1) (λ y. refl) (λ y.
+      split Same (eqb (c .a) 2) (λ y. refl) (λ y. refl))))))
+    where
+      Same : Engine → Type 0
+      Same x = outcomeOf e c (changeTo 0 noWords x false) ≡ accepted noWords x
+
+  module _ (n8 : eqb (c .b) 8 ≡ false) where
+    reads : eqb (c .b) 0 ≡ false → readsFifo c ≡ true
+    reads n0 = reads-fifo c (k .op) (facts .fields) n8 n0
+
+    pub readable : Readable e (c .b)
+    readable = record {
+      filled = λ n0. fifo-filled e c facts (reads n0);
+      ok = fifo-at-ok e (c .b) (valid-parts e (facts .valid));
+    }
+
+    -- the words that are read, and the FIFO that moves
+    abbrev wordsNow : Words
+    wordsNow = wordsRead e (written e (c .a) .clock) (c .b)
+
+    abbrev changeNow : Change
+    changeNow = changeTo 0 wordsNow (withWords (written e (c .a)) wordsNow) (not (eqb (c .b) 0))
+
+    by-selector : (z : Bool) → eqb (c .b) 0 ≡ z → outcomeOf e c changeNow ≡ commanded e (c .a) (c .b)
+    unfolding commanded written readWords readEngine
+    by-selector true y =
+        rw (n8, y)
+        (split Same (eqb (c .a) 0) (λ y. refl) (λ y.
+        split Same (eqb (c .a) 1) (λ y. refl) (λ y.
+        split Same (eqb (c .a) 2) (λ y. refl) (λ y. refl))))
+      where
+        shownWords : Engine → Words
+        shownWords x = timeWords (x .clock .seconds) (x .clock .nanoseconds) 0
+
+        Same : Engine → Type 0
+        Same x =
+            outcomeOf e c (changeTo 0 (shownWords x) (withWords x (shownWords x)) false)
+            ≡ accepted (shownWords x) (withWords x (shownWords x))
+    by-selector false y =
+        rw (n8, y, ordered)
+        (split Same (eqb (c .a) 0) (λ y. refl) (λ y.
+        split Same (eqb (c .a) 1) (λ y. refl) (λ y.
+        split Same (eqb (c .a) 2) (λ y. refl) (λ y. refl))))
+      where
+        oldestWords : Engine → Words
+        oldestWords x = stampWords (entry (fifo x (c .b)) 0)
+
+        Same : Engine → Type 0
+        Same x =
+            accepted (oldestWords e)
+            (applied (oldestTaken e (c .b)) (changeTo 0 (oldestWords e) (withWords x (oldestWords e)) true))
+            ≡ accepted (oldestWords x) (withWords (oldestTaken x (c .b)) (oldestWords x))
+
+    pub read-gives : Gives e c (commanded e (c .a) (c .b)) changeNow
+    read-gives = record {
+      is = by-selector (eqb (c .b) 0) refl;
+      moving = λ h. record { passed = k .passed; reads = λ o. reads (not-true _ h) };
+    }

@@ -1,2 +1,2 @@
--- What op 2 asks, and the parts of its read.
+-- What op 2 asks, and what its read returns.
 pub mod Reading

@@ -1,16 +1,18 @@
--- Op 2's read, part by part, and what it asks. Document 01, "The five words".
+-- What op 2 asks, and what its read returns. Document 01, "The five words".
 use Prim.Native.Nat.{ℕ}
 use mathlib.Core.Path.{_≡_}
 use mathlib.Core.Bool.{true, false, cond}
 use lib.Dec.{eqb}
 use Rattle.model.specs.declared.Engine.{Engine}
 use Rattle.model.specs.declared.Command.{Command}
-use Rattle.model.specs.declared.Outcome.{Outcome}
-use Rattle.model.specs.Fifo.{isEmpty, popped}
-use Rattle.model.specs.Record.{fifo, withFifo}
+use Rattle.model.specs.declared.Clock.{Clock}
+use Rattle.model.specs.declared.Words.{Words}
+use Rattle.model.specs.Words.{timeWords}
+use Rattle.model.specs.Fifo.{isEmpty, entry}
+use Rattle.model.specs.Record.{fifo}
 use Rattle.model.specs.Ranges.{fifoOk}
 use Rattle.model.specs.Checks.{answerOf}
-use Rattle.model.specs.Execute.{accepted, readWords, readEngine}
+use Rattle.model.specs.Execute.{stampWords}
 
 -- an accepted command of op 2
 pub record Commands (e : Engine) (c : Command) : Type 0 where
@@ -22,9 +24,9 @@ pub record Readable (e : Engine) (selector : ℕ) : Type 0 where
   pub filled : eqb selector 0 ≡ false → isEmpty (fifo e selector) ≡ false
   pub ok : fifoOk (fifo e selector) ≡ true
 
--- the record without the timestamp that is read
-abbrev pub takenFrom : Engine → ℕ → Engine
-takenFrom e selector = cond (eqb selector 0) e (withFifo e selector (popped (fifo e selector)))
-
-abbrev pub readOutcome : Engine → ℕ → Outcome
-readOutcome e selector = accepted (readWords e selector) (readEngine e selector)
+-- what a read returns, of the record before the write and the clock after it
+abbrev pub wordsRead : Engine → Clock → ℕ → Words
+wordsRead e now selector =
+    cond (eqb selector 0)
+    (timeWords (now .seconds) (now .nanoseconds) 0)
+    (stampWords (entry (fifo e selector) 0))

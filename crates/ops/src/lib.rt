@@ -1,35 +1,37 @@
-// Ops 1 to 8 on a record that has passed their checks: each function is one op, or the write or the read of op 2,
-// and returns a definition of the model's specs/Execute.antt. Document 01, "Command sheet" and "The five words".
+// Ops 1 to 8 on a record that has passed their checks: each function is one op, or the write or the read of op 2, and
+// returns the change to the record that a definition of the model's specs/Execute.antt gives. Document 01, "Command
+// sheet" and "The five words".
 ghost use mathlib.Core.Path.{_≡_};
+ghost use mathlib.Core.Bool.{false, not};
 ghost use Prim.Native.Nat.{_<_, _^_};
+ghost use lib.Dec.{eqb};
 ghost use Rattle.model.specs.Bounds.{WordsIn};
+ghost use Rattle.model.specs.Fifo.{isEmpty};
 ghost use Rattle.model.specs.Generator.{idleGenerator};
-ghost use Rattle.model.specs.Record.{withWords, withGenerator};
+ghost use Rattle.model.specs.Record.{withWords, withGenerator, fifo};
 ghost use Rattle.model.specs.Words.{noWords};
-ghost use Rattle.model.specs.Execute.{accepted as acceptedSpec, justFirst, loadedWords, armedBy, maskSet, statusOf};
-ghost use Rattle.model.specs.Execute.{timeWritten, periodWritten, adjustWritten, written, readWords, commanded};
-ghost use Rattle.model.specs.Execute.{interruptsRead};
-ghost use Rattle.ops.specs.Reading.{Commands, Readable, takenFrom, readOutcome};
+ghost use Rattle.model.specs.Execute.{justFirst, loadedWords, armedBy, maskSet, statusOf, interruptsRead, commanded};
+ghost use Rattle.model.specs.Execute.{timeWritten, periodWritten, adjustWritten, written};
+ghost use Rattle.change.specs.Changes.{changeTo, oldestTaken, Gives};
+ghost use Rattle.ops.specs.Reading.{Commands, Readable, wordsRead};
+use change::Change;
+use change::change_to;
 use model::Adjustment;
+use model::Clock;
 use model::Command;
 use model::Engine;
 use model::Generator;
 use model::Instant;
 use model::Interrupts;
-use model::Outcome;
 use model::Steering;
 use model::Words;
 use words::no_words;
 
-// An accepted command with these values and the record after it.
-fn accepted(values: Words, e: Engine) -> Outcome
-    ensures { λ r. ⌜ r ≡ acceptedSpec values e ⌝ }
+// An accepted command with these values and the record after it, whose FIFOs stay.
+fn accepted(values: Words, e: Engine) -> Change
+    ensures { λ r. ⌜ r ≡ changeTo 0 values e false ⌝ }
 {
-    Outcome {
-        answer: 0,
-        values: values,
-        engine: e,
-    }
+    change_to(0, values, e, false)
 }
 
 fn just_first(v: u64) -> Words
@@ -45,8 +47,8 @@ fn just_first(v: u64) -> Words
 }
 
 // Op 1, load words.
-pub fn load_words(e: Engine, c: Command) -> Outcome
-    ensures { λ r. ⌜ r ≡ acceptedSpec noWords (withWords e (loadedWords c)) ⌝ }
+pub fn load_words(e: Engine, c: Command) -> Change
+    ensures { λ r. ⌜ r ≡ changeTo 0 noWords (withWords e (loadedWords c)) false ⌝ }
 {
     accepted(
         no_words(),
@@ -119,53 +121,54 @@ fn write(e: Engine, selector: u64) -> Engine
     }
 }
 
-// Op 2, what a read returns: the time shown, or the oldest timestamp.
-fn read_words(e: Engine, selector: u64) -> Words
+// Op 2, what a read returns: the time shown after the write, or the oldest timestamp.
+fn read_words(e: Engine, now: Clock, selector: u64) -> Words
     requires { ⌜ Readable e selector ⌝ }
-    ensures { λ r. ⌜ r ≡ readWords e selector ⌝ }
+    ensures { λ r. ⌜ r ≡ wordsRead e now selector ⌝ }
 {
     if selector == 0 {
-        return words::time_words(e.clock.seconds, e.clock.nanoseconds, 0);
+        return words::time_words(now.seconds, now.nanoseconds, 0);
     }
     let t = fifo::oldest(record::fifo_at(e, selector));
     words::time_words(t.seconds, t.nanoseconds, t.rising)
 }
 
-// Op 2, the record without the timestamp that is read.
-fn take_timestamp(e: Engine, selector: u64) -> Engine
-    requires { ⌜ Readable e selector ⌝ }
-    ensures { λ r. ⌜ r ≡ takenFrom e selector ⌝ }
-{
-    if selector == 0 {
-        return e;
-    }
-    record::with_fifo(e, selector, fifo::pop(record::fifo_at(e, selector)))
-}
-
-// Op 2, the read: the words are returned and kept.
-fn read(e: Engine, selector: u64) -> Outcome
-    requires { ⌜ Readable e selector ⌝ }
-    ensures { λ r. ⌜ r ≡ readOutcome e selector ⌝ }
-{
-    let w = read_words(e, selector);
-    accepted(w, record::with_words(take_timestamp(e, selector), w))
-}
-
-// Op 2: the write goes before the read.
-pub fn command(e: Engine, c: Command) -> Outcome
+// Op 2: the write goes before the read. The words that are read are returned and kept, and a FIFO that is read moves.
+pub fn command(e: Engine, c: Command) -> Change
     requires { ⌜ Commands e c ⌝ }
-    ensures { λ r. ⌜ r ≡ commanded e (c .a) (c .b) ⌝ }
+    ensures { λ r. ⌜ Gives e c (commanded e (c .a) (c .b)) r ⌝ }
 {
     let now = write(e, c.a);
     if c.b == 8 {
         return accepted(no_words(), now);
     }
-    read(now, c.b)
+    let w = read_words(e, now.clock, c.b);
+    change_to(0, w, record::with_words(now, w), c.b != 0)
+}
+
+// Op 2, the record without the oldest timestamp of a FIFO.
+pub fn take_timestamp(mut e: Engine, n: u64) -> Engine
+    requires { ⌜ isEmpty (fifo e n) ≡ false ⌝ }
+    ensures { λ r. ⌜ r ≡ oldestTaken e n ⌝ }
+{
+    if n == 1 {
+        let popped = fifo::pop(e.fifo1);
+        e.fifo1 = popped;
+        return e;
+    }
+    if n == 2 {
+        let popped = fifo::pop(e.fifo2);
+        e.fifo2 = popped;
+        return e;
+    }
+    let popped = fifo::pop(e.fifo3);
+    e.fifo3 = popped;
+    e
 }
 
 // Op 3, arm.
-pub fn arm(e: Engine, c: Command) -> Outcome
-    ensures { λ r. ⌜ r ≡ acceptedSpec noWords (withGenerator e (c .a) (armedBy c)) ⌝ }
+pub fn arm(e: Engine, c: Command) -> Change
+    ensures { λ r. ⌜ r ≡ changeTo 0 noWords (withGenerator e (c .a) (armedBy c)) false ⌝ }
 {
     let g = Generator {
         pending: Instant {
@@ -184,8 +187,8 @@ pub fn arm(e: Engine, c: Command) -> Outcome
 }
 
 // Op 4, stop.
-pub fn stop(e: Engine, c: Command) -> Outcome
-    ensures { λ r. ⌜ r ≡ acceptedSpec noWords (withGenerator e (c .a) idleGenerator) ⌝ }
+pub fn stop(e: Engine, c: Command) -> Change
+    ensures { λ r. ⌜ r ≡ changeTo 0 noWords (withGenerator e (c .a) idleGenerator) false ⌝ }
 {
     accepted(
         no_words(),
@@ -194,9 +197,9 @@ pub fn stop(e: Engine, c: Command) -> Outcome
 }
 
 // Op 5, read interrupts: the bits are returned, then all cleared.
-pub fn read_interrupts(e: Engine) -> Outcome
+pub fn read_interrupts(e: Engine) -> Change
     requires { ⌜ e .interrupts .latched < 2 ^ 16 ⌝ }
-    ensures { λ r. ⌜ r ≡ interruptsRead e ⌝ }
+    ensures { λ r. ⌜ r ≡ changeTo 0 (interruptsRead e .values) (interruptsRead e .engine) false ⌝ }
 {
     let word = interrupts::interrupt_word(e.interrupts.latched, e.interrupts.enabled);
     let cleared = Interrupts {
@@ -207,8 +210,8 @@ pub fn read_interrupts(e: Engine) -> Outcome
 }
 
 // Op 6, set the enable mask.
-pub fn set_mask(e: Engine, c: Command) -> Outcome
-    ensures { λ r. ⌜ r ≡ acceptedSpec noWords (maskSet e (c .a)) ⌝ }
+pub fn set_mask(e: Engine, c: Command) -> Change
+    ensures { λ r. ⌜ r ≡ changeTo 0 noWords (maskSet e (c .a)) false ⌝ }
 {
     let masked = Interrupts {
         latched: e.interrupts.latched,
@@ -218,8 +221,8 @@ pub fn set_mask(e: Engine, c: Command) -> Outcome
 }
 
 // Op 7, read status.
-pub fn read_status(e: Engine) -> Outcome
-    ensures { λ r. ⌜ r ≡ acceptedSpec (justFirst (statusOf e)) e ⌝ }
+pub fn read_status(e: Engine) -> Change
+    ensures { λ r. ⌜ r ≡ changeTo 0 (justFirst (statusOf e)) e false ⌝ }
 {
     let word = interrupts::status_word(
         fifo::is_empty(e.fifo1),
@@ -230,8 +233,8 @@ pub fn read_status(e: Engine) -> Outcome
 }
 
 // Op 8, show the words.
-pub fn show_words(e: Engine) -> Outcome
-    ensures { λ r. ⌜ r ≡ acceptedSpec (e .words) e ⌝ }
+pub fn show_words(e: Engine) -> Change
+    ensures { λ r. ⌜ r ≡ changeTo 0 (e .words) e false ⌝ }
 {
     accepted(e.words, e)
 }

@@ -3,7 +3,7 @@
 // the model's specs/Record.antt.
 ghost use mathlib.Core.Path.{_≡_};
 ghost use Rattle.model.specs.Record.{withClock, withSteering, withGenerators, withInterrupts, withWords};
-ghost use Rattle.model.specs.Record.{generator, withGenerator, fifo, withFifo};
+ghost use Rattle.model.specs.Record.{generator, withGenerator, fifo};
 use model::Clock;
 use model::Engine;
 use model::Fifo;
@@ -77,19 +77,4 @@ pub fn fifo_at(e: Engine, n: u64) -> Fifo
         return e.fifo2;
     }
     e.fifo3
-}
-
-pub fn with_fifo(mut e: Engine, n: u64, f: Fifo) -> Engine
-    ensures { λ r. ⌜ r ≡ withFifo e n f ⌝ }
-{
-    if n == 1 {
-        e.fifo1 = f;
-        return e;
-    }
-    if n == 2 {
-        e.fifo2 = f;
-        return e;
-    }
-    e.fifo3 = f;
-    e
 }

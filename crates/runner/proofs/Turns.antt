@@ -4,7 +4,6 @@ use Prim.Native.Nat.{ℕ, _+_, _≤_, _<_}
 use mathlib.Core.Path.{_≡_, refl, sym, ap, _∙_}
 use mathlib.Core.Bool.{Bool, true, false, cond, false≢true}
 use mathlib.Core.List.{List, [], _∷_, _++_}
-use native.Mathlib.Decide.{decLt}
 use native.Mathlib.Omega.{arith}
 use lib.ListN.{length, drop, drop-of-length-le}
 use Rattle.model.specs.declared.Command.{Command}
@@ -13,20 +12,18 @@ use Rattle.model.specs.declared.Line.{Line}
 use Rattle.model.specs.declared.Outcome.{Outcome}
 use Rattle.model.specs.Ranges.{valid}
 use Rattle.model.specs.Record.{powerOn}
-use Rattle.model.specs.Execute.{execute}
 use Rattle.model.specs.Run.{historyFrom}
 use Rattle.model.specs.Text.{lineEnd, parts, firstPart}
-use Rattle.model.specs.Sheet.{isLine, commandIn, noLine, lineOf, refusedAt, sheetAccepted, bodyVerdict, sheetVerdict}
+use Rattle.model.specs.Sheet.{isLine, commandIn, noLine, lineOf, sheetAccepted, bodyVerdict, sheetVerdict}
 use Rattle.model.specs.Sheet.{commandsOf, commandsIn}
 use Rattle.model.specs.Results.{resultLine, resultLines, commandResults}
-use Rattle.model.proofs.Laws.Sheets.{passed, accepted-in, commands-few}
-use Rattle.model.proofs.Laws.Valid.{power-on-valid, execute-valid}
-use Rattle.tick.specs.declared.Quiet.{Quiet}
-use Rattle.tick.specs.Quiet.{isQuiet, quietTick, outcomeOf}
-use Rattle.tick.proofs.Quietly.{quiet-is}
+use Rattle.model.proofs.Laws.Sheets.{accepted-in, commands-few}
+use Rattle.model.proofs.Laws.Valid.{power-on-valid}
 use Rattle.engine.specs.Stepped.{Stepped}
+use Rattle.sheet.specs.declared.Next.{Next}
+use Rattle.sheet.specs.Reading.{ReadAt}
 use Rattle.sheet.proofs.Parts.{parts-some, parts-more}
-use Rattle.sheet.proofs.Body.{body-line, body-cut}
+use Rattle.sheet.proofs.Body.{LineTo, read-whole, line-passed, line-refused}
 use Rattle.writing.specs.Written.{Written}
 use Rattle.writing.proofs.Puts.{Rest, rest-whole, rest-room, rest-less, rest-none}
 
@@ -58,15 +55,6 @@ run-start s out from e h room on =
       rest = rw on (rest-whole room);
     }
 
--- a tick without inputs is a step like any other
-pub quiet-stepped : (e : Engine) (c : Command) (q : Quiet) → valid e ≡ true → isQuiet c ≡ true
-    → outcomeOf e q ≡ execute e quietTick
-    → Stepped e c (outcomeOf e q)
-quiet-stepped e c q v quiet is = record {
-  is = rw (quiet-is c quiet) is;
-  keeps = ap (λ o. valid (o .engine)) is ∙ execute-valid e quietTick v;
-}
-
 commands-first : (l : List ℕ) (ps : List (List ℕ)) → 0 < length ps → commandsOf (l ∷ ps) ≡ commandIn l ∷ commandsOf ps
 commands-first l [] h = absurd (omega arith)
 commands-first l (p ∷ ps) h = refl
@@ -77,42 +65,49 @@ read-command : (t : Bool) (c : Command) (r : Line) → r ≡ cond t (record { ok
 read-command true c r e h = ap (λ x. x .command) e
 read-command false c r e h = absurd (false≢true (sym (ap (λ x. x .ok) e) ∙ h))
 
--- a turn: the line at an index, what is read of it, and its command's outcome
-module _ {s before after : List ℕ} {from : ℕ} {e : Engine} {k at end : ℕ} (run : RanTo s before from after e k at end)
-    (some : at < length s) (l : List ℕ) (is : l ≡ firstPart lineEnd (drop at s)) where
-  pub whole-line : at + length l < length s
-  whole-line =
-      elim (decLt (at + length l) (length s)) [
-        | yes h ↦ h
-        | no h ↦
-            let cut = body-cut s at k l is some (omega arith) in
-            absurd (omega (arith, ap (λ v. v .answer) (sym cut ∙ run .accepted)))
-      ]
+-- what is read of a whole line
+abbrev pub lineRead : Command → ℕ → Next
+lineRead command end = record { line = record { ok = true; command = command }; end = end }
 
-  module _ (r : Line) (read : r ≡ lineOf l) where
-    tested : (r .ok ≡ true) × (bodyVerdict (k + 1) (parts lineEnd (drop (at + length l + 1) s)) ≡ sheetAccepted)
-    tested =
-        passed (r .ok) _ (refusedAt k 3) (omega arith)
-        (sym (body-line s at k l is whole-line r read (r .ok) refl) ∙ run .accepted)
+-- a turn: the line at an index as it is read, and its command's outcome
+module _ {s before after : List ℕ} {from : ℕ} {e : Engine} {k at end : ℕ} (run : RanTo s before from after e k at end)
+    (some : at < length s) where
+  -- each line of an accepted sheet is a value line
+  pub read-ok : (r : Next) → ReadAt s at r → ReadAt s at (lineRead (r .line .command) (r .end))
+  read-ok r read = go (r .line .ok) refl
+    where
+      go : (ok : Bool) → r .line .ok ≡ ok → ReadAt s at (lineRead (r .line .command) (r .end))
+      go true h = record {
+        end = λ ok. read .end h;
+        line = (λ i. record { ok = sym h i; command = r .line .command }) ∙ read .line;
+      }
+      go false h =
+          absurd (omega (arith, ap (λ v. v .answer) (sym (line-refused read k some h) ∙ run .accepted)))
+
+  module _ {command : Command} {line-end : ℕ} (read : ReadAt s at (lineRead command line-end)) where
+    pub line-to : LineTo s at k line-end
+    line-to = line-passed read k refl
 
     commands-here : commandsOf (parts lineEnd (drop at s))
-        ≡ r .command ∷ commandsOf (parts lineEnd (drop (at + length l + 1) s))
+        ≡ command ∷ commandsOf (parts lineEnd (drop (line-end + 1) s))
     unfolding lineOf
     commands-here =
-        let behind = drop (at + length l + 1) s in
+        let here = firstPart lineEnd (drop at s) in
+        let behind = drop (at + length here + 1) s in
+        let more : at + length here < length s = omega (arith, read .end refl, line-to .inside) in
         rw (
-          read-command (isLine l) (commandIn l) r read (tested .0),
-          parts-more lineEnd s at (length l) (ap length is) whole-line,
-          ← is,
+          read .end refl,
+          read-command (isLine here) (commandIn here) _ (read-whole read more) refl,
+          parts-more lineEnd s at (length here) refl more,
         )
-        (commands-first l (parts lineEnd behind) (parts-some lineEnd behind))
+        (commands-first here (parts lineEnd behind) (parts-some lineEnd behind))
 
-    module _ (o : Outcome) (stepped : Stepped e (r .command) o) where
+    module _ (o : Outcome) (stepped : Stepped e command o) where
       abbrev resultHere : List ℕ
       resultHere = resultLine k (o .answer) (o .values)
 
       abbrev resultsBehind : List ℕ
-      resultsBehind = resultsFrom (o .engine) (k + 1) (drop (at + length l + 1) s)
+      resultsBehind = resultsFrom (o .engine) (k + 1) (drop (line-end + 1) s)
 
       results-here : resultsFrom e k (drop at s) ≡ resultHere ++ resultsBehind
       unfolding historyFrom
@@ -122,13 +117,13 @@ module _ {s before after : List ℕ} {from : ℕ} {e : Engine} {k at end : ℕ} 
       line-room = rest-room resultHere resultsBehind (run .rest) results-here
 
       pub run-on : {out : List ℕ} {next : ℕ} → Written after out end resultHere next
-          → RanTo s before from out (o .engine) (k + 1) (at + length l + 1) next
+          → RanTo s before from out (o .engine) (k + 1) (line-end + 1) next
       run-on written = record {
-        within = omega (arith, whole-line);
+        within = omega (arith, line-to .inside);
         short = run .short;
-        numbered = omega (arith, run .numbered);
+        numbered = omega (arith, run .numbered, line-to .forth);
         is-valid = stepped .keeps;
-        accepted = tested .1;
+        accepted = sym (line-to .verdict) ∙ run .accepted;
         rest = rest-less (run .rest) results-here written;
       }
 

@@ -54,32 +54,23 @@ fn put_results(s: &[u8], out: &mut [u8], from: usize) -> usize
     let mut end = from;
     let mut answer: u64 = 0;
     while at < s.len() {
-        let line = sheet::line_at(s, at);
-        let read = sheet::read_line(line);
-        let command = read.command;
-        let mut values = words::no_words();
-        if tick::is_quiet(command) {
-            let q = tick::quiet_tick(e);
-            let clock = q.clock;
-            let steering = q.steering;
-            let generator1 = q.generator1;
-            let generator2 = q.generator2;
-            let interrupts = q.interrupts;
-            e.clock = clock;
-            e.steering = steering;
-            e.generator1 = generator1;
-            e.generator2 = generator2;
-            e.interrupts = interrupts;
-            answer = q.answer;
-            values = q.values;
-        } else {
-            let o = engine::step(e, command);
-            e = o.engine;
-            answer = o.answer;
-            values = o.values;
+        let mut command = sheet::command_of([0u64; 9]);
+        let mut line_end = at + 17;
+        if !sheet::is_tick_at(s, at) {
+            let next = sheet::read_at(s, at);
+            let line = next.line;
+            command = line.command;
+            line_end = next.end;
         }
+        let m = engine::change_by(e, command);
+        if m.moves {
+            e = engine::move_fifos(e, command);
+        }
+        e = change::apply(e, m);
+        answer = m.answer;
+        let values = m.values;
         end = put_result(out, end, k, answer, values);
-        at = at + line.len() + 1;
+        at = line_end + 1;
         k += 1;
     }
     end

@@ -1,23 +1,26 @@
 -- A part with another behind it is a line, which is tested and leaves the verdict to the others. The last part has
 -- to be empty, so it is refused while bytes are left.
 use mathlib.Core.Path.{_≡_, refl, sym, ap, _∙_}
-use mathlib.Core.Bool.{Bool, true, false, cond}
+use mathlib.Core.Bool.{Bool, true, false, cond, false≢true}
 use mathlib.Core.List.{List, [], _∷_}
 use Prim.Native.Nat.{ℕ, _+_, _≤_, _<_}
+use native.Mathlib.Decide.{decLt}
 use native.Mathlib.Omega.{arith}
 use lib.ListN.{length, drop, length-drop}
-use borrow.Author.Tests.{ne-eqb}
+use borrow.Author.Tests.{lt-ltb, le-ltb, ne-eqb}
 use Rattle.model.specs.declared.Command.{Command}
 use Rattle.model.specs.declared.Line.{Line}
 use Rattle.model.specs.Text.{lineEnd, parts, firstPart}
 use Rattle.model.specs.Sheet.{isLine, commandIn, noLine, lineOf, refusedAt, bodyVerdict}
+use Rattle.sheet.specs.declared.Next.{Next}
+use Rattle.sheet.specs.Reading.{ReadAt}
 use Rattle.sheet.proofs.Parts.{parts-some, parts-last, parts-more}
 
 line-if : (t : Bool) (command : Command) → cond t (record { ok = true; command = command }) noLine .ok ≡ t
 line-if true command = refl
 line-if false command = refl
 
-line-test : (l : List ℕ) (r : Line) → r ≡ lineOf l → (t : Bool) → r .ok ≡ t → isLine l ≡ t
+pub line-test : (l : List ℕ) (r : Line) → r ≡ lineOf l → (t : Bool) → r .ok ≡ t → isLine l ≡ t
 unfolding lineOf
 line-test l r e t h = sym (line-if (isLine l) (commandIn l)) ∙ (rw e at h)
 
@@ -38,3 +41,44 @@ module _ (s : List ℕ) (at k : ℕ) (l : List ℕ) (e : l ≡ firstPart lineEnd
   body-cut some h =
       let left : length (drop at s) ≡ 0 → ⊥ = (λ n. omega (arith, length-drop at s)) in
       rw (parts-last lineEnd s at (length l) (ap length e) h, ne-eqb (length (drop at s)) 0 left)
+
+-- a value line stands from an index to another, that of its line end, and leaves the verdict to those behind it
+pub record LineTo (s : List ℕ) (at k end : ℕ) : Type 0 where
+  pub forth : at ≤ end
+  pub inside : end < length s
+  pub verdict : bodyVerdict k (parts lineEnd (drop at s)) ≡ bodyVerdict (k + 1) (parts lineEnd (drop (end + 1) s))
+
+-- the line at an index, as it is read
+module _ {s : List ℕ} {at : ℕ} {r : Next} (read : ReadAt s at r) where
+  abbrev here : List ℕ
+  here = firstPart lineEnd (drop at s)
+
+  pub read-whole : at + length here < length s → r .line ≡ lineOf here
+  read-whole h = rw (lt-ltb (at + length here) (length s) h) at (read .line)
+
+  read-cut : length s ≤ at + length here → r .line ≡ noLine
+  read-cut h = rw (le-ltb (at + length here) (length s) h) at (read .line)
+
+  read-inside : r .line .ok ≡ true → at + length here < length s
+  read-inside ok =
+      elim (decLt (at + length here) (length s)) [
+        | yes h ↦ h
+        | no h ↦ absurd (false≢true (sym (ap (λ x. x .ok) (read-cut (omega arith))) ∙ ok))
+      ]
+
+  pub line-passed : (k : ℕ) → r .line .ok ≡ true → LineTo s at k (r .end)
+  line-passed k ok =
+      let more = read-inside ok in
+      record {
+        forth = omega (arith, read .end ok);
+        inside = omega (arith, read .end ok);
+        verdict = rw (read .end ok) (body-line s at k here refl more (r .line) (read-whole more) true ok);
+      }
+
+  pub line-refused : (k : ℕ) → at < length s → r .line .ok ≡ false
+      → bodyVerdict k (parts lineEnd (drop at s)) ≡ refusedAt k 3
+  line-refused k some no-ok =
+      elim (decLt (at + length here) (length s)) [
+        | yes h ↦ body-line s at k here refl h (r .line) (read-whole h) false no-ok
+        | no h ↦ body-cut s at k here refl some (omega arith)
+      ]

@@ -5,11 +5,12 @@ use mathlib.Core.List.{List, [], _∷_}
 use mathlib.Core.Bool.{Bool, true, false, _&&_, and-true, and-false, not, cond}
 use Prim.Native.Nat.{ℕ, suc, _+_, _*_, _-_, _^_, _≤_, _<_}
 use native.Mathlib.Numerals.{add-one}
+use native.Mathlib.Nat.{zero-add, add-sub-cancel-left}
 use native.Mathlib.Omega.{arith}
 use lib.Dec.{eqb, ltb}
 use lib.ListN.{length, getD, drop}
 use lib.Seq.{drop-cons}
-use borrow.Author.Tests.{le-ltb, ltb-false, ne-eqb}
+use borrow.Author.Tests.{lt-ltb, le-ltb, le-leb, ltb-false, ne-eqb}
 use Rattle.model.specs.declared.Value.{Value}
 use Rattle.model.specs.Text.{isDigit, allDigits, numberAfter, leadsWell, isValue, noValue, valueOf}
 use Rattle.model.proofs.Laws.Values.{number-grows}
@@ -57,3 +58,15 @@ unfolding isValue valueOf
 value-one [] one = absurd (omega arith)
 value-one (b ∷ []) one = rw and-true
 value-one (b ∷ d ∷ bs) one = absurd (omega arith)
+
+-- a digit that stands alone is a value
+pub digit-value : (digit : ℕ) → digit < 10 → record { ok = true; number = digit } ≡ valueOf ((48 + digit) ∷ [])
+unfolding isValue valueOf
+digit-value digit h =
+    rw (
+      le-leb 48 (48 + digit) (omega arith),
+      le-leb (48 + digit) 57 (omega arith),
+      add-sub-cancel-left,
+      zero-add,
+      lt-ltb digit (2 ^ 64) (omega arith),
+    )

@@ -1,12 +1,12 @@
 -- A text is compared with its head byte by byte, and one that is shorter than the head runs out first.
 use mathlib.Core.Path.{_≡_, refl, ap, _∙_}
-use mathlib.Core.List.{List, append-nil}
+use mathlib.Core.List.{List}
 use mathlib.Core.Bool.{Bool, true, false, _&&_}
 use Prim.Native.Nat.{ℕ, _+_, _≤_, _<_}
 use native.Mathlib.Numerals.{add-one}
 use native.Mathlib.Omega.{arith}
 use lib.Dec.{eqb}
-use lib.ListN.{length, getD, drop, length-append, drop-of-length-le}
+use lib.ListN.{length, getD, drop, length-append}
 use lib.Seq.{drop-cons}
 use Rattle.model.specs.Sheet.{startsWith}
 use Rattle.model.proofs.Laws.Sheets.{starts-in}
@@ -30,9 +30,3 @@ starts-short h s l = go (startsWith h s) refl
     go : (t : Bool) → startsWith h s ≡ t → startsWith h s ≡ false
     go true e = absurd (omega (arith, starts-length h s e))
     go false e = e
-
--- a text that starts with another of the same length is this text
-pub starts-whole : (h s : List ℕ) → startsWith h s ≡ true → length s ≡ length h → s ≡ h
-starts-whole h s e n =
-    let short : length s ≤ length h = omega arith in
-    starts-in h s e ∙ rw (drop-of-length-le s short, append-nil)

@@ -4,4 +4,6 @@ pub mod Parts
 pub mod Values
 pub mod Lines
 pub mod FirstLine
+pub mod Ticks
 pub mod Body
+pub mod LineParts

@@ -1,24 +1,26 @@
 -- A line whose first part is a value is the line with this number read and one part fewer left; with another first
 -- part, or another number of parts than are wanted, it is none.
-use mathlib.Core.Path.{_≡_, sym, ap, _∙_}
+use mathlib.Core.Path.{_≡_, refl, sym, ap, _∙_}
 use mathlib.Core.Bool.{true, false, _&&_, cond, and-false}
 use mathlib.Core.List.{List, [], _∷_, _++_, map, append-assoc, append-nil}
 use Prim.Native.Nat.{ℕ, suc, _+_, _-_, _≤_, _<_}
 use native.Mathlib.Numerals.{add-one}
-use native.Mathlib.Nat.{add-suc, suc-add, zero-add}
+use native.Mathlib.Nat.{add-suc, suc-add, zero-add, add-sub-cancel-left}
 use native.Mathlib.Decide.{decLt}
 use native.Mathlib.Omega.{arith}
 use lib.Dec.{eqb}
-use lib.ListN.{length, take, drop, set, length-drop, length-set}
-use lib.Seq.{take-suc-set, take-all}
+use lib.ListN.{length, take, drop, set, length-set}
+use lib.Seq.{take-suc-set, take-all, drop-cons}
 use borrow.Author.Tests.{ne-eqb}
 use Rattle.model.specs.declared.Line.{Line}
 use Rattle.model.specs.declared.Value.{Value}
 use Rattle.model.specs.Text.{comma, numberAfter, valueOf, parts, firstPart}
 use Rattle.model.specs.Sheet.{allValues, isLine, commandOf, noLine, lineOf}
 use Rattle.model.proofs.Laws.Lines.{value-one-part}
-use Rattle.sheet.specs.Reading.{RunTo}
-use Rattle.sheet.proofs.Parts.{parts-some, one-part, more-parts, first-is, parts-last, parts-more}
+use Rattle.sheet.specs.Reading.{RunTo, DigitAt}
+use Rattle.sheet.proofs.Parts.{parts-some, one-part, more-parts, first-here, first-on, first-is}
+use Rattle.sheet.proofs.Parts.{parts-last, parts-more, rest-is}
+use Rattle.sheet.proofs.Digits.{digit-value}
 use Rattle.sheet.proofs.Values.{value-test, value-number}
 
 -- the line whose first k numbers are those of ns, and whose other parts are ps
@@ -88,11 +90,27 @@ module _ {s ns : List ℕ} {at k n : ℕ} (to : ReadTo s ns at k) (run : RunTo c
     pub line-stop : r .ok ≡ false → noLine ≡ lineOf s
     line-stop h = sym (line-no-value k ns _ _ r e h) ∙ (rw here at (to .whole))
 
+-- one of them that is a digit
+module _ {s ns : List ℕ} {at k digit : ℕ} (to : ReadTo s ns at k) (one : DigitAt s at digit) (small : digit < 10) where
+  digit-run : RunTo comma at s 1
+  digit-run =
+      let on = first-on comma s at (omega arith) (λ e. omega arith) in
+      let here = first-here comma s (at + 1) (one .within) (one .behind) in
+      record { is = omega arith; within = omega arith }
+
+  digit-read : record { ok = true; number = digit } ≡ valueOf (take (at + 1 - at) (drop at s))
+  digit-read = rw (add-sub-cancel-left, drop-cons s at 0 (omega arith), one .byte) (digit-value digit small)
+
+  pub line-digit : k < 8 → ReadTo s (set ns k digit) (at + 2) (k + 1)
+  line-digit l =
+      let next : at + 2 ≡ at + 1 + 1 = omega arith in
+      rw next (line-on to digit-run l (one .within) digit-read refl)
+
 -- the ninth part, up to the end: a value has no comma, and with one there are too many parts
 module _ {s ns : List ℕ} {at k : ℕ} {r : Value} (to : ReadTo s ns at k) (ninth : 8 ≤ k)
     (e : r ≡ valueOf (take (length s - at) (drop at s))) where
   rest-read : r ≡ valueOf (drop at s)
-  rest-read = rw (take-all (length s - at) (drop at s) (omega (arith, length-drop at s))) at e
+  rest-read = rw (rest-is s at) at e
 
   pub line-last : r .ok ≡ true → record { ok = true; command = commandOf (set ns 8 (r .number)) } ≡ lineOf s
   line-last h =

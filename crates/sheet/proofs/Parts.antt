@@ -8,8 +8,8 @@ use native.Mathlib.Numerals.{add-one}
 use native.Mathlib.Nat.{add-suc, add-sub-cancel-left, le-of-suc-le-suc}
 use native.Mathlib.Omega.{arith}
 use lib.Dec.{eqb}
-use lib.ListN.{length, getD, take, drop, length-take, length-drop, drop-of-length-le}
-use lib.Seq.{drop-cons, drop-drop}
+use lib.ListN.{length, getD, take, drop, length-drop, drop-of-length-le}
+use lib.Seq.{take-all, drop-cons, drop-drop}
 use borrow.Author.Tests.{eq-eqb, ne-eqb}
 use Rattle.model.specs.Text.{intoParts, parts, firstPart}
 
@@ -23,7 +23,7 @@ parts-some sep [] = omega arith
 parts-some sep (b ∷ bs) = into-some (eqb b sep) b (parts sep bs)
 
 -- the first part, byte by byte
-first-into : (t : Bool) (b : ℕ) (ps : List (List ℕ)) → getD (intoParts t b ps) 0 [] ≡ cond t [] (b ∷ getD ps 0 [])
+pub first-into : (t : Bool) (b : ℕ) (ps : List (List ℕ)) → getD (intoParts t b ps) 0 [] ≡ cond t [] (b ∷ getD ps 0 [])
 first-into true b ps = refl
 first-into false b [] = refl
 first-into false b (p ∷ ps) = refl
@@ -33,7 +33,7 @@ take-into : (t : Bool) (b : ℕ) (p bs : List ℕ) → p ≡ take (length p) bs
 take-into true b p bs h = refl
 take-into false b p bs h = ap (_∷_ b) h
 
-first-take : (sep : ℕ) (bs : List ℕ) → firstPart sep bs ≡ take (length (firstPart sep bs)) bs
+pub first-take : (sep : ℕ) (bs : List ℕ) → firstPart sep bs ≡ take (length (firstPart sep bs)) bs
 first-take sep [] = refl
 first-take sep (b ∷ bs) =
     rw (first-into (eqb b sep) b (parts sep bs)) (take-into (eqb b sep) b (firstPart sep bs) bs (first-take sep bs))
@@ -94,8 +94,6 @@ module _ (sep : ℕ) (s : List ℕ) (at n : ℕ) (e : n ≡ length (firstPart se
       let l : length (firstPart sep (drop at s)) < length (drop at s) = omega (arith, length-drop at s) in
       rw (add-one, ← add-suc at n, ← drop-drop (suc n) at s, e) (more-parts sep (drop at s) l)
 
-pub first-within : (sep : ℕ) (s : List ℕ) (at : ℕ) → at ≤ length s
-    → at + length (firstPart sep (drop at s)) ≤ length s
-first-within sep s at h =
-    let rest = drop at s in
-    omega (arith, length-drop at s, ap length (first-take sep rest), length-take (length (firstPart sep rest)) rest)
+-- the slice from an index up to the end is what is left of the text
+pub rest-is : (s : List ℕ) (at : ℕ) → take (length s - at) (drop at s) ≡ drop at s
+rest-is s at = take-all (length s - at) (drop at s) (omega (arith, length-drop at s))

@@ -1,12 +1,18 @@
--- The steps of reading: one digit, one field, one run of bytes. Document 01, "Command sheet".
-use Prim.Native.Nat.{ℕ, _+_, _*_, _-_, _≤_, _^_}
+-- The steps of reading: one digit, one field, one run of bytes, one value line. Document 01, "Command sheet".
+use Prim.Native.Nat.{ℕ, _+_, _*_, _-_, _≤_, _<_, _^_}
 use mathlib.Core.Path.{_≡_}
-use mathlib.Core.List.{List}
+use mathlib.Core.List.{List, _++_}
 use mathlib.Core.Bool.{true, _&&_, cond}
 use lib.Dec.{ltb}
-use lib.ListN.{length, drop}
+use lib.ListN.{length, getD, take, drop}
 use Rattle.model.specs.declared.Value.{Value}
-use Rattle.model.specs.Text.{isDigit, noValue, firstPart}
+use Rattle.model.specs.Text.{bytes, comma, lineEnd, isDigit, noValue, firstPart}
+use Rattle.model.specs.Sheet.{noLine, lineOf}
+use Rattle.sheet.specs.declared.Next.{Next}
+
+-- the value line of a tick without inputs and its line end
+abbrev pub tickLine : List ℕ
+tickLine = bytes "0,0,0,0,0,0,0,0,0\n"
 
 -- v with the digit b written after it, where b is one and the number is below 2^64
 abbrev pub digitAfter : ℕ → ℕ → Value
@@ -17,3 +23,20 @@ digitAfter v b =
 pub record RunTo (separator from : ℕ) (s : List ℕ) (r : ℕ) : Type 0 where
   pub is : r ≡ length (firstPart separator (drop from s))
   pub within : from + r ≤ length s
+
+-- a digit stands at an index, and a comma behind it
+pub record DigitAt (s : List ℕ) (at digit : ℕ) : Type 0 where
+  pub within : at + 1 < length s
+  pub byte : getD s at 0 ≡ 48 + digit
+  pub behind : getD s (at + 1) 0 ≡ comma
+
+-- the part of a text up to the first line end that stands behind 17 bytes, as a value line has no fewer
+abbrev pub linePart : List ℕ → List ℕ
+linePart t = take 17 t ++ firstPart lineEnd (drop 17 t)
+
+-- what the value line at an index reads as, without a line end none; where it is one, the index of its line end
+pub record ReadAt (s : List ℕ) (at : ℕ) (r : Next) : Type 0 where
+  pub line :
+      let here = firstPart lineEnd (drop at s) in
+      r .line ≡ cond (ltb (at + length here) (length s)) (lineOf here) noLine
+  pub end : r .line .ok ≡ true → r .end ≡ at + length (firstPart lineEnd (drop at s))

@@ -1,13 +1,13 @@
-// Reading a command sheet: one value, one value line as a part of the caller's slice, and the sheet as a whole,
+// Reading a command sheet: one value, the value line at an index of the caller's slice, and the sheet as a whole,
 // numbers 1 to 3. Each function returns a definition of the model's specs/Text.antt and specs/Sheet.antt. Document
 // 01, "Command sheet".
 ghost use mathlib.Core.Path.{_≡_};
-ghost use Prim.Native.Nat.{_+_, _≤_};
+ghost use Prim.Native.Nat.{_≤_, _<_};
 ghost use lib.ListN.{length, drop};
-ghost use Rattle.model.specs.Text.{lineEnd, noValue, leadsWell, valueOf, parts, firstPart};
+ghost use Rattle.model.specs.Text.{lineEnd, noValue, leadsWell, valueOf, parts};
 ghost use Rattle.model.specs.Sheet.{startsWith, commandOf, noLine, lineOf, refusedAt, bodyVerdict};
 ghost use Rattle.model.specs.Sheet.{sheetVerdict};
-ghost use Rattle.sheet.specs.Reading.{digitAfter, RunTo};
+ghost use Rattle.sheet.specs.Reading.{tickLine, digitAfter, RunTo, DigitAt, linePart, ReadAt};
 use model::Command;
 use model::Line;
 use model::Value;
@@ -16,8 +16,8 @@ use model::Verdict;
 // The first line of a command sheet, its line end included.
 const FIRST_LINE: [u8; 19] = *b"op,a,b,c,d,e,f,g,h\n";
 
-// The value line of a tick without inputs.
-const QUIET_LINE: [u8; 17] = *b"0,0,0,0,0,0,0,0,0";
+// The value line of a tick without inputs, its line end included.
+const TICK_LINE: [u8; 18] = *b"0,0,0,0,0,0,0,0,0\n";
 
 fn no_value() -> Value
     ensures { λ r. ⌜ r ≡ noValue ⌝ }
@@ -113,28 +113,34 @@ fn run_length(s: &[u8], from: usize, separator: u8) -> usize
     i - from
 }
 
-// How many bytes stand before the next comma: at once where it is one, as most values have one digit.
-fn value_length(s: &[u8], at: usize) -> usize
+// The digit that stands alone before a comma at an index, as most values do; 10 or more where there is none.
+fn digit_at(s: &[u8], at: usize) -> u64
     requires { ⌜ at ≤ length (now s) ⌝ }
-    ensures { λ r. ⌜ RunTo 44 at (now (s .entry)) r ⌝ }
+    ensures { λ r. ⌜ (r < 10 → DigitAt (now (s .entry)) at r) ⌝ }
 {
     if at + 1 < s.len() {
-        if s[at] != 44 {
-            if s[at + 1] == 44 {
-                return 1;
+        if s[at + 1] == 44 {
+            let b = s[at];
+            if 48 <= b {
+                return wide(b - 48);
             }
         }
     }
-    run_length(s, at, 44)
+    10
 }
 
-// The value line that begins at an index: the caller's bytes up to the next line end.
-pub fn line_at(s: &[u8], from: usize) -> &[u8]
+// The value line that begins at an index: the caller's bytes up to the next line end, which is looked for behind 17
+// bytes, since no value line has fewer. A shorter line is handed on with a line end in it, and is none either way.
+fn line_at(s: &[u8], from: usize) -> &[u8]
     requires { ⌜ from ≤ length (now s) ⌝ }
-    ensures { λ r. ⌜ now r ≡ firstPart lineEnd (drop from (now (s .entry))) ⌝ }
+    ensures { λ r. ⌜ now r ≡ linePart (drop from (now (s .entry))) ⌝ }
 {
-    let n = run_length(s, from, 10);
-    let end = from + n;
+    if s.len() - from < 17 {
+        return &s[from..];
+    }
+    let least = from + 17;
+    let n = run_length(s, least, 10);
+    let end = least + n;
     &s[from..end]
 }
 
@@ -181,25 +187,42 @@ fn starts_with(s: &[u8], head: &[u8]) -> bool
     true
 }
 
-// Eight values up to a comma each, and the ninth up to the end.
-fn read_values(s: &[u8]) -> Line
+// A tick without inputs stands at this index: most lines of a sheet are such.
+pub fn is_tick_at(s: &[u8], at: usize) -> bool
+    requires { ⌜ at ≤ length (now s) ⌝ }
+    ensures { λ r. ⌜ r ≡ startsWith tickLine (drop at (now (s .entry))) ⌝ }
+{
+    if s.len() - at < 18 {
+        return false;
+    }
+    starts_with(&s[at..], &TICK_LINE)
+}
+
+// One value line, without its line end: eight values up to a comma each, and the ninth up to the end.
+fn read_line(s: &[u8]) -> Line
     ensures { λ r. ⌜ r ≡ lineOf (now (s .entry)) ⌝ }
 {
     let mut numbers = [0u64; 9];
     let mut at = 0;
     let mut k = 0;
     while k < 8 {
-        let n = value_length(s, at);
-        let end = at + n;
-        if s.len() <= end {
-            return no_line();
+        let digit = digit_at(s, at);
+        if digit < 10 {
+            numbers[k] = digit;
+            at += 2;
+        } else {
+            let n = run_length(s, at, 44);
+            let end = at + n;
+            if s.len() <= end {
+                return no_line();
+            }
+            let value = read_value(&s[at..end]);
+            if !value.ok {
+                return no_line();
+            }
+            numbers[k] = value.number;
+            at = end + 1;
         }
-        let value = read_value(&s[at..end]);
-        if !value.ok {
-            return no_line();
-        }
-        numbers[k] = value.number;
-        at = end + 1;
         k += 1;
     }
     let last = read_value(&s[at..]);
@@ -213,19 +236,30 @@ fn read_values(s: &[u8]) -> Line
     }
 }
 
-// One value line, without its line end. Most lines of a sheet are ticks without inputs, which are known at sight.
-pub fn read_line(s: &[u8]) -> Line
-    ensures { λ r. ⌜ r ≡ lineOf (now (s .entry)) ⌝ }
+// What stands at an index: what the value line there reads as, and the index of its line end.
+pub struct Next {
+    pub line: Line,
+    pub end: usize,
+}
+
+// The value line at an index. A last line with no line end is none.
+pub fn read_at(s: &[u8], at: usize) -> Next
+    requires { ⌜ at ≤ length (now s) ⌝ }
+    ensures { λ r. ⌜ ReadAt (now (s .entry)) at r ⌝ }
 {
-    if s.len() == 17 {
-        if starts_with(s, &QUIET_LINE) {
-            return Line {
-                ok: true,
-                command: command_of([0u64; 9]),
-            };
-        }
+    let line = line_at(s, at);
+    let end = at + line.len();
+    if s.len() <= end {
+        return Next {
+            line: no_line(),
+            end: end,
+        };
     }
-    read_values(s)
+    let read = read_line(line);
+    Next {
+        line: read,
+        end: end,
+    }
 }
 
 fn refused_at(line: u64, answer: u64) -> Verdict
@@ -245,14 +279,13 @@ fn check_body(s: &[u8], from: usize) -> Verdict
     let mut at = from;
     let mut k: u64 = 2;
     while at < s.len() {
-        let line = line_at(s, at);
-        let end = at + line.len();
-        if s.len() <= end {
-            return refused_at(k, 3);
-        }
-        let read = read_line(line);
-        if !read.ok {
-            return refused_at(k, 3);
+        let mut end = at + 17;
+        if !is_tick_at(s, at) {
+            let next = read_at(s, at);
+            if !next.line.ok {
+                return refused_at(k, 3);
+            }
+            end = next.end;
         }
         at = end + 1;
         k += 1;

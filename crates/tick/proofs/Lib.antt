@@ -1,3 +1,3 @@
--- What an accepted tick knows of its record, and what a tick without inputs does.
+-- What an accepted tick knows of its record, and which ticks are accepted.
 pub mod Within
-pub mod Quietly
+pub mod Checked

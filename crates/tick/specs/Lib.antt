@@ -1,3 +1,2 @@
 -- What a tick asks, and the list of its events.
 pub mod Ticks
-pub mod Quiet

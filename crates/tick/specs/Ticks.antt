@@ -2,7 +2,7 @@
 -- of bit positions. Document 01, "The clock" and "Interrupt words".
 use mathlib.Core.Path.{_≡_}
 use mathlib.Core.List.{List, [], _∷_}
-use mathlib.Core.Bool.{Bool, false}
+use mathlib.Core.Bool.{Bool, _||_}
 use Rattle.model.specs.declared.Engine.{Engine}
 use Rattle.model.specs.declared.Command.{Command}
 use Rattle.model.specs.declared.Steering.{Steering}
@@ -10,7 +10,8 @@ use Rattle.model.specs.declared.Interrupts.{Interrupts}
 use Rattle.model.specs.Clock.{spent}
 use Rattle.model.specs.Interrupts.{positions, latch}
 use Rattle.model.specs.Checks.{answerOf}
-use Rattle.fifo.specs.declared.Captured.{Captured}
+use Rattle.fifo.specs.declared.Arrival.{Arrival}
+use Rattle.fifo.specs.Capture.{arrivalOf}
 use Rattle.generator.specs.declared.Advanced.{Advanced}
 
 -- an accepted command of op 0
@@ -23,7 +24,7 @@ abbrev pub steeringAfter : Steering → Steering
 steeringAfter s = record { period = s .period; adjustment = spent (s .adjustment) }
 
 -- TAC, P1EC, P1SC, P2EC, P2SC, TS1_NE, TS1_OF, TS2_NE, TS2_OF, TS3_NE, TS3_OF
-abbrev pub eventsOf : Bool → Advanced → Advanced → Captured → Captured → Captured → List Bool
+abbrev pub eventsOf : Bool → Advanced → Advanced → Arrival → Arrival → Arrival → List Bool
 eventsOf last output1 output2 input1 input2 input3 =
     last
     ∷ output1 .event
@@ -38,22 +39,12 @@ eventsOf last output1 output2 input1 input2 input3 =
     ∷ input3 .overflow
     ∷ []
 
--- the same without inputs
-abbrev pub outputEvents : Bool → Advanced → Advanced → List Bool
-outputEvents last output1 output2 =
-    last
-    ∷ output1 .event
-    ∷ output1 .sequence
-    ∷ output2 .event
-    ∷ output2 .sequence
-    ∷ false
-    ∷ false
-    ∷ false
-    ∷ false
-    ∷ false
-    ∷ false
-    ∷ []
-
 -- the latched bits with those of the events, and the same mask
 abbrev pub interruptsAfter : Interrupts → List Bool → Interrupts
 interruptsAfter i events = record { latched = latch positions events (i .latched); enabled = i .enabled }
+
+-- some input's edge is stored
+abbrev pub storesAny : Engine → Command → Bool
+storesAny e c =
+    arrivalOf (e .fifo1) (c .a) .stored
+    || (arrivalOf (e .fifo2) (c .b) .stored || arrivalOf (e .fifo3) (c .c) .stored)

@@ -2,23 +2,23 @@
 // once, each worked out from the record before the tick, and the events are latched. Document 01, "The clock" and
 // "Stamps and generators".
 ghost use mathlib.Core.Path.{_≡_};
-ghost use Rattle.model.specs.Words.{five};
 ghost use mathlib.Core.Bool.{true};
+ghost use Rattle.model.specs.Words.{five};
 ghost use Rattle.model.specs.Ranges.{valid};
-ghost use Rattle.model.specs.Execute.{accepted, tickEngine, tickValues, execute};
-ghost use Rattle.tick.specs.Ticks.{Ticks, steeringAfter, eventsOf, outputEvents, interruptsAfter};
-ghost use Rattle.tick.specs.Quiet.{isQuiet, quietTick, standing, outcomeOf};
-use fifo::Captured;
+ghost use Rattle.model.specs.Execute.{tickEngine, tickValues, execute};
+ghost use Rattle.change.specs.Changes.{changeTo, timestampsStored, Gives};
+ghost use Rattle.tick.specs.Ticks.{Ticks, steeringAfter, eventsOf, interruptsAfter, storesAny};
+use change::Change;
+use change::change_to;
+use fifo::Arrival;
 use generator::Advanced;
-use model::Clock;
 use model::Command;
 use model::Engine;
-use model::Generator;
 use model::Interrupts;
-use model::Outcome;
 use model::Steering;
 use model::Words;
-use tests::both;
+use tests::either;
+use words::no_words;
 
 // PERIOD stays, and the adjustment loses a cycle.
 fn spend_cycle(s: Steering) -> Steering
@@ -50,9 +50,9 @@ fn latch_events(
     last: bool,
     output1: Advanced,
     output2: Advanced,
-    input1: Captured,
-    input2: Captured,
-    input3: Captured,
+    input1: Arrival,
+    input2: Arrival,
+    input3: Arrival,
 ) -> Interrupts
     ensures { λ r. ⌜ r ≡ interruptsAfter i (eventsOf last output1 output2 input1 input2 input3) ⌝ }
 {
@@ -75,135 +75,64 @@ fn latch_events(
     }
 }
 
-// The same for a tick without inputs.
-fn latch_outputs(i: Interrupts, last: bool, output1: Advanced, output2: Advanced) -> Interrupts
-    ensures { λ r. ⌜ r ≡ interruptsAfter i (outputEvents last output1 output2) ⌝ }
-{
-    let events = [
-        last,
-        output1.event,
-        output1.sequence,
-        output2.event,
-        output2.sequence,
-        false,
-        false,
-        false,
-        false,
-        false,
-        false,
-    ];
-    Interrupts {
-        latched: interrupts::latch(i.latched, events),
-        enabled: i.enabled,
-    }
-}
-
-// The whole tick, from the record before it.
-pub fn tick(e: Engine, c: Command) -> Outcome
+// An accepted tick, from the record before it.
+fn cycle(e: Engine, c: Command) -> Change
     requires { ⌜ Ticks e c ⌝ }
-    ensures { λ r. ⌜ r ≡ accepted (tickValues e) (tickEngine e c) ⌝ }
+    ensures { λ r. ⌜ r ≡ changeTo 0 (tickValues e) (tickEngine e c) (storesAny e c) ⌝ }
 {
     let amount = clock::cycle_amount(e.steering);
     let step = clock::step_by(e.clock, amount);
     let next = clock::tick_clock(e.clock, amount, step);
     let output1 = generator::advance(e.generator1, e.clock, next, step);
     let output2 = generator::advance(e.generator2, e.clock, next, step);
-    let input1 = fifo::capture(e.fifo1, e.clock, step, c.a);
-    let input2 = fifo::capture(e.fifo2, e.clock, step, c.b);
-    let input3 = fifo::capture(e.fifo3, e.clock, step, c.c);
+    let input1 = fifo::arrive(e.fifo1, c.a);
+    let input2 = fifo::arrive(e.fifo2, c.b);
+    let input3 = fifo::arrive(e.fifo3, c.c);
     let last = clock::is_last_cycle(e.steering.adjustment);
     let latched = latch_events(e.interrupts, last, output1, output2, input1, input2, input3);
-    let fifo1 = input1.fifo;
-    let fifo2 = input2.fifo;
-    let fifo3 = input3.fifo;
     let generator1 = output1.generator;
     let generator2 = output2.generator;
     let words = e.words;
-    Outcome {
+    Change {
         answer: 0,
         values: codes(output1, output2),
-        engine: Engine {
-            clock: next,
-            steering: spend_cycle(e.steering),
-            fifo1: fifo1,
-            fifo2: fifo2,
-            fifo3: fifo3,
-            generator1: generator1,
-            generator2: generator2,
-            interrupts: latched,
-            words: words,
-        },
-    }
-}
-
-// What a tick without inputs returns, and the parts of the record that it may change; FIFOs and words stay.
-pub struct Quiet {
-    pub answer: u64,
-    pub values: Words,
-    pub clock: Clock,
-    pub steering: Steering,
-    pub generator1: Generator,
-    pub generator2: Generator,
-    pub interrupts: Interrupts,
-}
-
-// A tick without inputs: nine zeros.
-pub fn is_quiet(c: Command) -> bool
-    ensures { λ r. ⌜ r ≡ isQuiet c ⌝ }
-{
-    both(
-        both(both(c.op == 0, c.a == 0), both(c.b == 0, c.c == 0)),
-        both(
-            both(both(c.d == 0, c.e == 0), both(c.f == 0, c.g == 0)),
-            c.h == 0,
-        ),
-    )
-}
-
-// No tick: the time would pass the last second.
-fn stand(e: Engine) -> Quiet
-    ensures { λ r. ⌜ r ≡ standing e ⌝ }
-{
-    let clock = e.clock;
-    let steering = e.steering;
-    let generator1 = e.generator1;
-    let generator2 = e.generator2;
-    let kept = e.interrupts;
-    Quiet {
-        answer: 15,
-        values: words::no_words(),
-        clock: clock,
-        steering: steering,
+        clock: next,
+        steering: spend_cycle(e.steering),
         generator1: generator1,
         generator2: generator2,
-        interrupts: kept,
+        interrupts: latched,
+        words: words,
+        moves: either(input1.stored, either(input2.stored, input3.stored)),
     }
 }
 
-// A tick without inputs on a valid record: the same as `execute` gives, for callers that keep the FIFOs in place.
-pub fn quiet_tick(e: Engine) -> Quiet
+// Op 0 on a valid record: numbers 6 and 15, then the tick.
+pub fn tick(e: Engine, c: Command) -> Change
     requires { ⌜ valid e ≡ true ⌝ }
-    ensures { λ r. ⌜ outcomeOf e r ≡ execute e quietTick ⌝ }
+    requires { ⌜ c .op ≡ 0 ⌝ }
+    ensures { λ r. ⌜ Gives e c (execute e c) r ⌝ }
 {
-    let amount = clock::cycle_amount(e.steering);
-    let step = clock::step_by(e.clock, amount);
-    if clock::ends_in_time(e.clock, step) {
-        let next = clock::tick_clock(e.clock, amount, step);
-        let output1 = generator::advance(e.generator1, e.clock, next, step);
-        let output2 = generator::advance(e.generator2, e.clock, next, step);
-        let last = clock::is_last_cycle(e.steering.adjustment);
-        let latched = latch_outputs(e.interrupts, last, output1, output2);
-        let generator1 = output1.generator;
-        let generator2 = output2.generator;
-        return Quiet {
-            answer: 0,
-            values: codes(output1, output2),
-            clock: next,
-            steering: spend_cycle(e.steering),
-            generator1: generator1,
-            generator2: generator2,
-            interrupts: latched,
-        };
+    if fields::tick_fields(c) {
+        let step = clock::step_by(e.clock, clock::cycle_amount(e.steering));
+        if clock::ends_in_time(e.clock, step) {
+            return cycle(e, c);
+        }
+        return change_to(15, no_words(), e, false);
     }
-    stand(e)
+    change_to(6, no_words(), e, false)
+}
+
+// The timestamps of a tick's inputs, stored in the record before it.
+pub fn store_timestamps(mut e: Engine, c: Command) -> Engine
+    requires { ⌜ Ticks e c ⌝ }
+    ensures { λ r. ⌜ r ≡ timestampsStored e c ⌝ }
+{
+    let step = clock::step_by(e.clock, clock::cycle_amount(e.steering));
+    let fifo1 = fifo::capture(e.fifo1, e.clock, step, c.a);
+    let fifo2 = fifo::capture(e.fifo2, e.clock, step, c.b);
+    let fifo3 = fifo::capture(e.fifo3, e.clock, step, c.c);
+    e.fifo1 = fifo1;
+    e.fifo2 = fifo2;
+    e.fifo3 = fifo3;
+    e
 }

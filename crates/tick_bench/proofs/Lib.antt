@@ -1,2 +1,3 @@
--- Why a loop of single commands is the run of a list.
+-- Why orders are given in place, and why the turns of the loop are the definition's ticks.
+pub mod Orders
 pub mod Repeats

@@ -1,12 +1,29 @@
 -- Ticks on an engine with orders, for the benchmark. Orders and input codes come from the caller, so that a compiler
 -- cannot work them out beforehand; with counts of 0 nothing is ordered, and the engine is idle.
 use Prim.Native.Nat.{ℕ}
+use mathlib.Core.Path.{_≡_}
+use mathlib.Core.Bool.{true, false}
 use mathlib.Core.List.{List, [], _∷_}
+use lib.Dec.{eqb}
 use lib.ListN.{replicate}
 use Rattle.model.specs.declared.Engine.{Engine}
 use Rattle.model.specs.declared.Command.{Command}
+use Rattle.model.specs.Ranges.{valid}
+use Rattle.model.specs.Checks.{readsFifo}
+use Rattle.model.specs.Execute.{execute}
 use Rattle.model.specs.Run.{engineFrom, engineAfter}
 use Rattle.model.specs.Sheet.{commandOf}
+
+-- an order that moves no FIFO, on a valid record
+pub record Still (e : Engine) (c : Command) : Type 0 where
+  pub on : valid e ≡ true
+  pub order : eqb (c .op) 0 ≡ false
+  pub reads-none : readsFifo c ≡ false
+
+-- the record after it, valid again
+pub record Gave (e : Engine) (c : Command) (r : Engine) : Type 0 where
+  pub is : r ≡ execute e c .engine
+  pub keeps : valid r ≡ true
 
 -- the record after one command, so many times
 abbrev pub repeated : Engine → Command → ℕ → Engine

@@ -1,83 +1,66 @@
-// What the benchmark of reference/ links beside the static library: so many ticks with no sheet around them, by
-// `engine::step` and, with the record's check 4 at each, by `engine::execute`.
+// What the benchmark of reference/ links beside the static library: so many ticks with no sheet around them, on a
+// record that stays in place, with check 4 before each or without.
 ghost use mathlib.Core.Path.{_≡_};
 ghost use mathlib.Core.Bool.{true};
 ghost use Rattle.model.specs.Ranges.{valid};
 ghost use Rattle.model.specs.Run.{engineAfter};
-ghost use Rattle.tick_bench.specs.Ticks.{repeated, orders, shownAfter};
+ghost use Rattle.tick_bench.specs.Ticks.{Still, Gave, repeated, orders, tickOf, shownAfter};
 use model::Command;
 use model::Engine;
+
+// The record after a command that is no tick and moves no FIFO.
+fn give(e: Engine, c: Command) -> Engine
+    requires { ⌜ Still e c ⌝ }
+    ensures { λ r. ⌜ Gave e c r ⌝ }
+{
+    let m = engine::order(e, c);
+    change::apply(e, m)
+}
 
 // The record with the orders given.
 fn ordered(cycles: u64, edges: u64) -> Engine
     ensures { λ r. ⌜ r ≡ engineAfter (orders cycles edges) ⌝ }
 {
     let on = engine::power_on();
-    let loaded = engine::execute(on, sheet::command_of([1, 0, cycles, 0, 0, 1920, 0, 0, 0]));
-    let steered = engine::execute(
-        loaded.engine,
-        sheet::command_of([2, 2, 8, 0, 0, 0, 0, 0, 0]),
-    );
-    let one = engine::execute(
-        steered.engine,
+    let loaded = give(on, sheet::command_of([1, 0, cycles, 0, 0, 1920, 0, 0, 0]));
+    let steered = give(loaded, sheet::command_of([2, 2, 8, 0, 0, 0, 0, 0, 0]));
+    let one = give(
+        steered,
         sheet::command_of([3, 1, 0, 3, 256, 1, 3, edges, 1]),
     );
-    let two = engine::execute(
-        one.engine,
-        sheet::command_of([3, 2, 0, 5, 300, 6, 7, edges, 1]),
-    );
-    two.engine
+    give(one, sheet::command_of([3, 2, 0, 5, 300, 6, 7, edges, 1]))
 }
 
-// So many commands by `step`.
-fn stepped(start: Engine, c: Command, n: u64) -> Engine
+// So many ticks with a code on each input. A record that fails its check, which none does, would stay as it is.
+fn ticked(start: Engine, code: u64, n: u64, checked: bool) -> Engine
     requires { ⌜ valid start ≡ true ⌝ }
-    ensures { λ r. ⌜ r ≡ repeated start c n ⌝ }
+    ensures { λ r. ⌜ r ≡ repeated start (tickOf code) n ⌝ }
 {
+    let c = sheet::command_of([0, code, code, code, 0, 0, 0, 0, 0]);
     let mut e = start;
     let mut i: u64 = 0;
     while i < n {
-        let o = engine::step(e, c);
-        let next = o.engine;
-        e = next;
+        if checked {
+            if !validity::is_valid(e) {
+                return e;
+            }
+        }
+        let m = tick::tick(e, c);
+        if m.moves {
+            e = tick::store_timestamps(e, c);
+        }
+        e = change::apply(e, m);
         i += 1;
     }
     e
 }
 
-// So many commands by `execute`.
-fn executed(start: Engine, c: Command, n: u64) -> Engine
-    ensures { λ r. ⌜ r ≡ repeated start c n ⌝ }
-{
-    let mut e = start;
-    let mut i: u64 = 0;
-    while i < n {
-        let o = engine::execute(e, c);
-        let next = o.engine;
-        e = next;
-        i += 1;
-    }
-    e
-}
-
-// The nanoseconds shown after n ticks, the record checked once.
+// The nanoseconds shown after n ticks, the record checked before each where `checked` is 1.
 #[no_mangle]
-pub extern "C" fn tick_bench_step(n: u64, cycles: u64, edges: u64, code: u64) -> u64
+pub extern "C" fn tick_bench_ticks(n: u64, cycles: u64, edges: u64, code: u64, checked: u64) -> u64
     ensures { λ r. ⌜ r ≡ shownAfter n cycles edges code ⌝ }
 {
-    let tick = sheet::command_of([0, code, code, code, 0, 0, 0, 0, 0]);
-    let e = stepped(ordered(cycles, edges), tick, n);
-    let clock = e.clock;
-    clock.nanoseconds
-}
-
-// The nanoseconds shown after n ticks, the record checked at each.
-#[no_mangle]
-pub extern "C" fn tick_bench_execute(n: u64, cycles: u64, edges: u64, code: u64) -> u64
-    ensures { λ r. ⌜ r ≡ shownAfter n cycles edges code ⌝ }
-{
-    let tick = sheet::command_of([0, code, code, code, 0, 0, 0, 0, 0]);
-    let e = executed(ordered(cycles, edges), tick, n);
+    let e = ticked(ordered(cycles, edges), code, n, checked == 1);
     let clock = e.clock;
     clock.nanoseconds
 }

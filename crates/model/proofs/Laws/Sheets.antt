@@ -121,11 +121,14 @@ further-length : (ns : List ℕ) → 2 * length ns ≤ length (furtherNumbers ns
 further-length [] = omega arith
 further-length (n ∷ ns) = rw length-append (omega (arith, decimal-some n, further-length ns))
 
+pub line-length : (c : Command) → 17 ≤ length (numbers (fieldsOf c))
+line-length c = omega (arith, further-length (fieldsOf c))
+
 lines-length : (cs : List Command) → 18 * length cs ≤ length (linesText cs)
 lines-length [] = omega arith
 lines-length (c ∷ cs) =
     rw (append-snoc (numbers (fieldsOf c)) lineEnd (linesText cs), length-append)
-    (omega (arith, further-length (fieldsOf c), lines-length cs))
+    (omega (arith, line-length c, lines-length cs))
 
 -- the first line has 19 bytes, and each value line at least 18
 pub commands-few : (s : List ℕ) → sheetVerdict s ≡ sheetAccepted → 19 + 18 * length (commandsIn s) ≤ length s

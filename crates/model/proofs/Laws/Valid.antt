@@ -135,15 +135,19 @@ fifo-written e selector n =
     Same : Engine → Type 0
     Same x = Record.fifo x n ≡ Record.fifo e n
 
--- a read of a FIFO found it not empty
-pub fifo-filled : (e : Engine) (c : Command) → c .op ≡ 2 → Accepted e c → eqb (c .b) 8 ≡ false → eqb (c .b) 0 ≡ false
-    → isEmpty (Record.fifo e (c .b)) ≡ false
-fifo-filled e c o k n8 n0 =
-    let f = command-fields c o (k .fields) in
+-- an accepted op 2 with a read selector that is neither 8 nor 0 reads a FIFO
+pub reads-fifo : (c : Command) → c .op ≡ 2 → Fields.fieldsOk c ≡ true → eqb (c .b) 8 ≡ false → eqb (c .b) 0 ≡ false
+    → Checks.readsFifo c ≡ true
+reads-fifo c o ok n8 n0 =
+    let f = command-fields c o ok in
     let low : c .b ≤ 3 = leb-true _ _ (or-left _ _ (f .1 .0) n8) in
     let z = eqb-false (c .b) 0 n0 in
-    let reads = both-true _ _ (both-true _ _ (eq-eqb _ _ o) (le-leb 1 (c .b) (omega arith))) (le-leb _ _ low) in
-    not-true _ (k .check7 reads)
+    both-true _ _ (both-true _ _ (eq-eqb _ _ o) (le-leb 1 (c .b) (omega arith))) (le-leb _ _ low)
+
+-- a read of a FIFO found it not empty
+pub fifo-filled : (e : Engine) (c : Command) → Accepted e c → Checks.readsFifo c ≡ true
+    → isEmpty (Record.fifo e (c .b)) ≡ false
+fifo-filled e c k reads = not-true _ (k .check7 reads)
 
 commanded-valid : (e : Engine) (c : Command) → c .op ≡ 2 → Accepted e c
     → Valid (Execute.commanded e (c .a) (c .b) .engine)
@@ -152,7 +156,7 @@ commanded-valid e c o k =
     split Good (eqb (c .b) 8)
     (λ y. written-valid e c o k)
     (λ n8. read-valid (Execute.written e (c .a)) (c .b) (written-valid e c o k)
-    (λ n0. rw fifo-written (fifo-filled e c o k n8 n0)))
+    (λ n0. rw fifo-written (fifo-filled e c k (reads-fifo c o (k .fields) n8 n0))))
   where
     Good : Outcome → Type 0
     Good x = Valid (x .engine)

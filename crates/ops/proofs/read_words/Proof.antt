@@ -1,13 +1,11 @@
 -- The definition's words; the oldest timestamp's EDGE is 0 or 1.
 use borrow.Author.Needs.{needs}
 use borrow.Author.Tests.{eq-eqb, ne-eqb}
-use Rattle.model.specs.Execute.{readWords}
 use Rattle.model.proofs.Laws.Fifo.{oldest-rising}
 use Rattle.ops.proofs.read_words.Statement.{statement}
 use Rattle.ops.proofs.read_words.Tie as tie
 
 returns : tie.Need-returns
-unfolding readWords
 returns c = simp (c .time-words .ensures, eq-eqb _ _ (c .before .if1 .taken))
 
 time-words-requires-2 : tie.Need-time-words-requires-2
@@ -19,7 +17,6 @@ time-words-requires-2 c κs =
     ) (oldest-rising _ (k .filled (ne-eqb _ _ (c .before .before .if1 .left))) (k .ok))
 
 returns-2 : tie.Need-returns-2
-unfolding readWords
 returns-2 c =
     simp (
       c .time-words2 .ensures,

@@ -1,71 +1,57 @@
--- Every part is the definition's, worked out from the record before the tick.
+-- The two checks of a tick in the table's order, then the cycle.
+use mathlib.Core.Path.{sym, _∙_}
 use borrow.Author.Needs.{needs}
-use Rattle.model.specs.Execute.{tickEngine, tickValues, tickEvents}
-use Rattle.generator.specs.Advance.{advanceOf}
-use Rattle.fifo.specs.Capture.{captureOf}
-use Rattle.tick.proofs.Within.{clock-within, amount-low, cycle, ticking1, ticking2}
-use Rattle.tick.proofs.Within.{capturing1, capturing2, capturing3}
+use Rattle.model.proofs.Laws.Ranges.{valid-parts, clock-in}
+use Rattle.model.proofs.Laws.Clock.{cycle-amount-in}
+use Rattle.model.proofs.Laws.Valid.{tick-step-bounds}
+use Rattle.tick.proofs.Checked.{in-time-is, fields-refused, late-refused, ticks, cycle-gives}
 use Rattle.tick.proofs.tick.Statement.{statement}
 use Rattle.tick.proofs.tick.Tie as tie
 
 step-by-requires : tie.Need-step-by-requires
 step-by-requires c κs =
-    let k = c .before .pre in rw (c .cycle-amount .ensures) (clock-within _ _ k .remainder, amount-low _ _ k)
+    let v = valid-parts _ (c .before .before .before .pre .0) in
+    (clock-in _ (v .clock) .remainder, rw (c .cycle-amount .ensures) (cycle-amount-in _ (v .steering) .high))
 
-tick-clock-requires : tie.Need-tick-clock-requires
-tick-clock-requires c κs =
-    rw (c .step-by .ensures, c .before .cycle-amount .ensures) (cycle _ _ (c .before .before .pre))
+ends-in-time-requires : tie.Need-ends-in-time-requires
+ends-in-time-requires c κs =
+    let v = valid-parts _ (c .before .before .before .before .pre .0) in
+    (clock-in _ (v .clock), rw (c .step-by .ensures, c .before .cycle-amount .ensures) (tick-step-bounds _ v .1))
 
-advance-requires : tie.Need-advance-requires
-advance-requires c κs =
-    let amount = c .before .before in
-    rw (c .tick-clock .ensures, c .before .step-by .ensures, amount .cycle-amount .ensures)
-    (ticking1 _ _ (amount .before .pre))
-
-advance-requires-2 : tie.Need-advance-requires-2
-advance-requires-2 c κs =
+cycle-requires : tie.Need-cycle-requires
+cycle-requires c κs =
     let step = c .before .before in
-    rw (c .before .tick-clock .ensures, step .step-by .ensures, step .before .cycle-amount .ensures)
-    (ticking2 _ _ (step .before .before .pre))
-
-capture-requires : tie.Need-capture-requires
-capture-requires c κs =
-    let step = c .before .before .before in
-    rw (step .step-by .ensures, step .before .cycle-amount .ensures) (capturing1 _ _ (step .before .before .pre))
-
-capture-requires-2 : tie.Need-capture-requires-2
-capture-requires-2 c κs =
-    let step = c .before .before .before .before in
-    rw (step .step-by .ensures, step .before .cycle-amount .ensures) (capturing2 _ _ (step .before .before .pre))
-
-capture-requires-3 : tie.Need-capture-requires-3
-capture-requires-3 c κs =
-    let step = c .before .before .before .before .before in
-    rw (step .step-by .ensures, step .before .cycle-amount .ensures) (capturing3 _ _ (step .before .before .pre))
+    let fields = step .before .before in
+    let start = fields .before .before in
+    let amount = step .before .cycle-amount .ensures in
+    let left = in-time-is (start .args .e) amount (step .step-by .ensures) (c .before .ends-in-time .ensures) in
+    ticks _ _ (start .pre .0) (start .pre .1)
+    (sym (fields .before .tick-fields .ensures) ∙ fields .if1 .taken) (left ∙ c .if2 .taken)
 
 returns : tie.Need-returns
-unfolding tickEngine tickValues tickEvents advanceOf captureOf
-returns c =
-    let p = c .before .before .before .before .before .before in
-    let q = p .before .before .before .before .before .before in
-    simp (
-      c .spend-cycle .ensures,
-      c .before .codes .ensures,
-      p .before .before .latch-events .ensures,
-      p .before .before .before .is-last-cycle .ensures,
-      p .before .before .before .before .capture3 .ensures,
-      p .before .before .before .before .before .capture2 .ensures,
-      q .capture .ensures,
-      q .before .advance2 .ensures,
-      q .before .before .advance .ensures,
-      q .before .before .before .tick-clock .ensures,
-      q .before .before .before .before .step-by .ensures,
-      q .before .before .before .before .before .cycle-amount .ensures,
-    )
+returns c = rw (c .cycle .ensures) (cycle-gives _ _ (cycle-requires (c .before) tt))
+
+returns-2 : tie.Need-returns-2
+returns-2 c =
+    let test = c .before .before in
+    let step = test .before .before in
+    let fields = step .before .before in
+    let start = fields .before .before in
+    let amount = step .before .cycle-amount .ensures in
+    let left = in-time-is (start .args .e) amount (step .step-by .ensures) (test .before .ends-in-time .ensures) in
+    rw (c .change-to .ensures, c .before .no-words .ensures)
+    (late-refused _ _ (start .pre .0) (start .pre .1)
+    (sym (fields .before .tick-fields .ensures) ∙ fields .if1 .taken) (left ∙ test .if2 .left))
+
+returns-3 : tie.Need-returns-3
+returns-3 c =
+    let test = c .before .before in
+    let start = test .before .before in
+    rw (c .change-to2 .ensures, c .before .no-words2 .ensures)
+    (fields-refused _ _ (start .pre .0) (start .pre .1) (sym (test .before .tick-fields .ensures) ∙ test .if1 .left))
 
 pub tick-spec : {M : Type 1} → statement M
 tick-spec =
     tie.close
-    (tie.spec (search needs) step-by-requires tick-clock-requires advance-requires advance-requires-2
-    capture-requires capture-requires-2 capture-requires-3 (search needs) (search needs) (search needs)
-    (search needs) returns)
+    (tie.spec (search needs) (search needs) step-by-requires ends-in-time-requires cycle-requires returns
+    (search needs) (search needs) returns-2 (search needs) (search needs) returns-3)

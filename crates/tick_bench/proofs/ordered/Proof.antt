@@ -1,24 +1,45 @@
--- The definition's orders, one after the other.
+-- The definition's orders, one after the other; none is a tick, and none reads a FIFO.
+use mathlib.Core.Path.{refl}
 use borrow.Author.Needs.{needs}
 use Rattle.model.specs.Run.{engineFrom}
+use Rattle.model.proofs.Laws.Valid.{power-on-valid}
 use Rattle.tick_bench.proofs.ordered.Statement.{statement}
 use Rattle.tick_bench.proofs.ordered.Tie as tie
+
+give-requires : tie.Need-give-requires
+give-requires c κs =
+    rw (c .command-of .ensures, c .before .power-on .ensures)
+    (record { on = power-on-valid; order = refl; reads-none = refl })
+
+give-requires-2 : tie.Need-give-requires-2
+give-requires-2 c κs =
+    rw (c .command-of2 .ensures)
+    (record { on = c .before .give .ensures .keeps; order = refl; reads-none = refl })
+
+give-requires-3 : tie.Need-give-requires-3
+give-requires-3 c κs =
+    rw (c .command-of3 .ensures)
+    (record { on = c .before .give2 .ensures .keeps; order = refl; reads-none = refl })
+
+give-requires-4 : tie.Need-give-requires-4
+give-requires-4 c κs =
+    rw (c .command-of4 .ensures)
+    (record { on = c .before .give3 .ensures .keeps; order = refl; reads-none = refl })
 
 returns : tie.Need-returns
 unfolding engineFrom
 returns c =
-    let two = c .before in
-    let one = two .before .before in
+    let one = c .before .before in
     let steered = one .before .before in
     let loaded = steered .before .before in
     simp (
-      two .execute4 .ensures,
-      two .before .command-of4 .ensures,
-      one .execute3 .ensures,
+      c .give4 .ensures .is,
+      c .before .command-of4 .ensures,
+      one .give3 .ensures .is,
       one .before .command-of3 .ensures,
-      steered .execute2 .ensures,
+      steered .give2 .ensures .is,
       steered .before .command-of2 .ensures,
-      loaded .execute .ensures,
+      loaded .give .ensures .is,
       loaded .before .command-of .ensures,
       loaded .before .before .power-on .ensures,
     )
@@ -26,5 +47,5 @@ returns c =
 pub ordered-spec : {M : Type 1} → statement M
 ordered-spec =
     tie.close
-    (tie.spec (search needs) (search needs) (search needs) (search needs) (search needs) (search needs) (search needs)
-    (search needs) (search needs) returns)
+    (tie.spec (search needs) (search needs) give-requires (search needs) give-requires-2 (search needs)
+    give-requires-3 (search needs) give-requires-4 returns)

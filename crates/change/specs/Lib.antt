@@ -1,0 +1,2 @@
+-- What a command gives and changes.
+pub mod Changes

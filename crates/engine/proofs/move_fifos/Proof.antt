@@ -1,0 +1,26 @@
+-- The definition's two cases; a FIFO that is read was found filled.
+use mathlib.Core.Path.{_≡_}
+use borrow.Author.Needs.{needs}
+use borrow.Author.Tests.{eq-eqb, ne-eqb}
+use Rattle.model.proofs.Laws.Checks.{accepted-facts}
+use Rattle.model.proofs.Laws.Valid.{fifo-filled}
+use Rattle.engine.proofs.move_fifos.Statement.{statement}
+use Rattle.engine.proofs.move_fifos.Tie as tie
+
+store-timestamps-requires : tie.Need-store-timestamps-requires
+store-timestamps-requires c κs = record { passed = c .before .before .pre .passed; op = c .if1 .taken }
+
+take-timestamp-requires : tie.Need-take-timestamp-requires
+take-timestamp-requires c κs =
+    let k = c .before .before .pre in
+    fifo-filled _ _ (accepted-facts _ _ (k .passed)) (k .reads (ne-eqb _ _ (c .if1 .left)))
+
+returns : tie.Need-returns
+returns c = simp (c .store-timestamps .ensures, eq-eqb _ _ (c .before .if1 .taken))
+
+returns-2 : tie.Need-returns-2
+returns-2 c = simp (c .take-timestamp .ensures, ne-eqb _ _ (c .before .if1 .left))
+
+pub move-fifos-spec : {M : Type 1} → statement M
+move-fifos-spec =
+    tie.close (tie.spec store-timestamps-requires take-timestamp-requires returns returns-2)

@@ -1,0 +1,69 @@
+-- A tick on a valid record has two checks: its fields, and the time that is left; no other check of the table speaks
+-- of op 0. And a tick that stores no timestamp leaves the FIFOs as they were.
+use Prim.Native.Nat.{ℕ, _+_}
+use mathlib.Core.Path.{_≡_, refl, sym, ap, _∙_}
+use mathlib.Core.Bool.{Bool, true, false, cond, _||_, false≢true}
+use lib.Dec.{ltb}
+use borrow.Author.Tests.{eq-eqb}
+use Rattle.model.specs.declared.Engine.{Engine}
+use Rattle.model.specs.declared.Command.{Command}
+use Rattle.model.specs.Tests.{every}
+use Rattle.model.specs.Words.{noWords}
+use Rattle.model.specs.Clock.{shown, endOfTime, cycleAmount, stepBy}
+use Rattle.model.specs.Ranges.{valid}
+use Rattle.model.specs.Fields.{tickFields, fieldsOk, fieldTests}
+use Rattle.model.specs.Checks.{answerOf, checks, tickStep}
+use Rattle.model.specs.Execute.{execute, performed, accepted, tickEngine, tickValues}
+use Rattle.change.specs.Changes.{changeTo, applied, fifosMoved, Gives}
+use Rattle.change.proofs.Given.{refused-gives}
+use Rattle.fifo.proofs.Arrivals.{not-stored}
+use Rattle.tick.specs.Ticks.{Ticks, storesAny}
+
+-- the tick ends within the last second
+abbrev pub inTime : Engine → Bool
+inTime e = ltb (shown (e .clock) + tickStep e) endOfTime
+
+-- the test on numbers that are worked out one after the other
+pub in-time-is : (e : Engine) {amount step : ℕ} {left : Bool} → amount ≡ cycleAmount (e .steering)
+    → step ≡ stepBy (e .clock) amount → left ≡ ltb (shown (e .clock) + step) endOfTime → inTime e ≡ left
+in-time-is e a s l = rw (l, s, a) refl
+
+module _ (e : Engine) (c : Command) (v : valid e ≡ true) (o : c .op ≡ 0) where
+  tick-answer : answerOf e c ≡ cond (every (tickFields c)) (cond (inTime e) 0 15) 6
+  unfolding answerOf checks fieldsOk fieldTests
+  tick-answer = rw (v, o) refl
+
+  pub fields-refused : every (tickFields c) ≡ false → Gives e c (execute e c) (changeTo 6 noWords e false)
+  unfolding execute
+  fields-refused f = refused-gives e c 6 _ (rw (tick-answer, f) refl)
+
+  module _ (f : every (tickFields c) ≡ true) where
+    pub late-refused : inTime e ≡ false → Gives e c (execute e c) (changeTo 15 noWords e false)
+    unfolding execute
+    late-refused t = refused-gives e c 15 _ (rw (tick-answer, f, t) refl)
+
+    pub ticks : inTime e ≡ true → Ticks e c
+    ticks t = record { passed = tick-answer ∙ rw (f, t) refl; op = o }
+
+-- a test of three parts that fails fails in each
+none : {a b c : Bool} → a || (b || c) ≡ false → (a ≡ false) × (b ≡ false) × (c ≡ false)
+none {a = false} {b = false} h = (refl, refl, h)
+none {a = false} {b = true} h = absurd (false≢true (sym h))
+none {a = true} h = absurd (false≢true (sym h))
+
+module _ (e : Engine) (c : Command) (k : Ticks e c) where
+  -- where no timestamp is stored the FIFOs of the definition are those of the record
+  fifos-moved : (moves : Bool) → storesAny e c ≡ moves
+      → applied (cond moves (fifosMoved e c) e) (changeTo 0 (tickValues e) (tickEngine e c) moves) ≡ tickEngine e c
+  unfolding tickEngine
+  fifos-moved true h = rw (k .op) refl
+  fifos-moved false h =
+      let n = none h in
+      rw (not-stored _ _ _ _ (n .0), not-stored _ _ _ _ (n .1), not-stored _ _ _ _ (n .2)) refl
+
+  pub cycle-gives : Gives e c (execute e c) (changeTo 0 (tickValues e) (tickEngine e c) (storesAny e c))
+  unfolding execute performed
+  cycle-gives = record {
+    is = ap (accepted (tickValues e)) (fifos-moved (storesAny e c) refl) ∙ rw (k .passed, k .op) refl;
+    moving = λ h. record { passed = k .passed; reads = λ n. absurd (false≢true (sym n ∙ eq-eqb _ _ (k .op))) };
+  }

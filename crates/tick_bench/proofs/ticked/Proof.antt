@@ -1,0 +1,76 @@
+-- A tick keeps the record valid, so the next may be made and no check fails; each turn runs one command of the list.
+use Prim.Native.Nat.{_-_}
+use mathlib.Core.Path.{_≡_, refl, sym, ap, _∙_}
+use mathlib.Core.Bool.{true, cond, false≢true}
+use mathlib.Core.Logic.{⊎-elim}
+use native.Mathlib.Numerals.{unary-clauses}
+use borrow.Author.Needs.{needs}
+use borrow.Author.Tests.{not-true}
+use Rattle.model.specs.Ranges.{valid}
+use Rattle.change.specs.Changes.{timestampsStored}
+use Rattle.tick_bench.specs.Ticks.{repeated}
+use Rattle.tick_bench.proofs.Repeats.{tick-gave, turn-leads, none-left}
+use Rattle.tick_bench.proofs.ticked.Statement.{statement}
+use Rattle.tick_bench.proofs.ticked.Tie as tie
+
+abbrev Inv-loop : tie.InvT-loop
+Inv-loop code n checked c e₀ i₀ e i = (valid e ≡ true) × (repeated e c (n - i) ≡ repeated e₀ c n)
+
+abbrev μ-loop : tie.MeasureT-loop
+μ-loop code n checked c e₀ i₀ e i = n - i
+
+loop-holds : tie.Need-loop-holds Inv-loop μ-loop
+loop-holds c = (c .before .pre, simp unary-clauses)
+
+returns : tie.Need-returns Inv-loop μ-loop
+returns c =
+    let at = c .before .before .before .before in
+    absurd (false≢true (sym (not-true _ (c .if2 .taken)) ∙ c .before .is-valid .ensures ∙ at .loop .inv .0))
+
+tick-requires : tie.Need-tick-requires Inv-loop μ-loop
+tick-requires c κs =
+    let at = c .before .before in
+    (at .loop .inv .0, ap (λ x. x .op) (at .before .command-of .ensures))
+
+store-timestamps-requires : tie.Need-store-timestamps-requires Inv-loop μ-loop
+store-timestamps-requires c κs =
+    let at = c .before .before .before .before in
+    record {
+      passed = c .before .tick .ensures .moving (c .if3 .taken) .passed;
+      op = ap (λ x. x .op) (at .before .command-of .ensures);
+    }
+
+-- where the record has its timestamps stored, or is as it was
+stored-is : (c : tie.Joined3 Inv-loop μ-loop)
+    → let at = c .before .before .before .before in
+    let e = at .loop .e in
+    c .if3 .e ≡ cond (c .before .tick .result .moves) (timestampsStored e (at .before .command-of .result)) e
+stored-is c =
+    ⊎-elim
+    (λ w. rw (w .2, w .1 .ensures, w .0 .taken) refl)
+    (λ w. rw (w .1, w .0 .left) refl)
+    (c .if3 .came)
+
+loop-again : tie.Need-loop-again Inv-loop μ-loop
+loop-again c =
+    let tick = c .before .before in
+    let turn = tick .before .before in
+    let at = turn .before in
+    let op = ap (λ x. x .op) (at .before .command-of .ensures) in
+    let gave = tick-gave _ _ _ (at .loop .inv .0) op (tick .tick .ensures) in
+    rw (c .apply .ensures, stored-is (c .before))
+    (gave .keeps, turn-leads _ _ _ _ gave (turn .loop-test .taken) ∙ at .loop .inv .1)
+
+returns-2 : tie.Need-returns-2 Inv-loop μ-loop
+returns-2 c =
+    let at = c .before in
+    let start = at .before .before .args in
+    sym (none-left _ _ _ _ (c .loop-test .left))
+    ∙ at .loop .inv .1
+    ∙ ap (λ x. repeated (start .start) x (start .n)) (at .before .command-of .ensures)
+
+pub ticked-spec : {M : Type 1} → statement M
+ticked-spec =
+    tie.close
+    (tie.spec Inv-loop μ-loop (search needs) loop-holds (search needs) returns tick-requires
+    store-timestamps-requires (search needs) (search needs) (search needs) loop-again returns-2)
