@@ -20,8 +20,8 @@ use Rattle.model.proofs.Laws.Lines.{value-one-part}
 use Rattle.sheet.specs.Reading.{RunTo, DigitAt}
 use Rattle.sheet.proofs.Parts.{parts-some, one-part, more-parts, first-here, first-on, first-is}
 use Rattle.sheet.proofs.Parts.{parts-last, parts-more, rest-is}
-use Rattle.sheet.proofs.Digits.{digit-value}
-use Rattle.sheet.proofs.Values.{value-test, value-number}
+use Rattle.values.proofs.Digits.{digit-value}
+use Rattle.values.proofs.Values.{value-test, value-number}
 
 -- the line whose first k numbers are those of ns, and whose other parts are ps
 unfoldable pub lineWith : ℕ → List ℕ → List (List ℕ) → Line

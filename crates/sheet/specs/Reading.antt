@@ -1,12 +1,12 @@
--- The steps of reading: one digit, one field, one run of bytes, one value line. Document 01, "Command sheet".
-use Prim.Native.Nat.{ℕ, _+_, _*_, _-_, _≤_, _<_, _^_}
+-- The steps of reading: some bytes as a number, one digit, one run of bytes, one value line. Document 01, "Command
+-- sheet".
+use Prim.Native.Nat.{ℕ, _+_, _*_, _≤_, _<_, _^_}
 use mathlib.Core.Path.{_≡_}
 use mathlib.Core.List.{List, _++_}
-use mathlib.Core.Bool.{true, _&&_, cond}
+use mathlib.Core.Bool.{true, cond}
 use lib.Dec.{ltb}
 use lib.ListN.{length, getD, take, drop}
-use Rattle.model.specs.declared.Value.{Value}
-use Rattle.model.specs.Text.{bytes, comma, lineEnd, isDigit, noValue, firstPart}
+use Rattle.model.specs.Text.{bytes, comma, lineEnd, firstPart}
 use Rattle.model.specs.Sheet.{noLine, lineOf}
 use Rattle.sheet.specs.declared.Next.{Next}
 
@@ -14,10 +14,15 @@ use Rattle.sheet.specs.declared.Next.{Next}
 abbrev pub tickLine : List ℕ
 tickLine = bytes "0,0,0,0,0,0,0,0,0\n"
 
--- v with the digit b written after it, where b is one and the number is below 2^64
-abbrev pub digitAfter : ℕ → ℕ → Value
-digitAfter v b =
-    cond (isDigit b && ltb (v * 10 + (b - 48)) (2 ^ 64)) (record { ok = true; number = v * 10 + (b - 48) }) noValue
+-- two, four or eight bytes from an index on as a number, the first byte lowest
+abbrev pub pairAt : List ℕ → ℕ → ℕ
+pairAt s at = getD s (at + 1) 0 * 2 ^ 8 + getD s at 0
+
+abbrev pub fourAt : List ℕ → ℕ → ℕ
+fourAt s at = pairAt s (at + 2) * 2 ^ 16 + pairAt s at
+
+abbrev pub eightAt : List ℕ → ℕ → ℕ
+eightAt s at = fourAt s (at + 4) * 2 ^ 32 + fourAt s at
 
 -- the length of the text from an index to the next separator, which ends within the whole
 pub record RunTo (separator from : ℕ) (s : List ℕ) (r : ℕ) : Type 0 where

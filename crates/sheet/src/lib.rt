@@ -1,102 +1,26 @@
-// Reading a command sheet: one value, the value line at an index of the caller's slice, and the sheet as a whole,
-// numbers 1 to 3. Each function returns a definition of the model's specs/Text.antt and specs/Sheet.antt. Document
-// 01, "Command sheet".
+// Reading a command sheet: the value line at an index of the caller's slice, and the sheet as a whole, numbers 1 to 3.
+// Each function returns a definition of the model's specs/Text.antt and specs/Sheet.antt. Document 01, "Command
+// sheet".
 ghost use mathlib.Core.Path.{_≡_};
-ghost use Prim.Native.Nat.{_≤_, _<_};
+ghost use Prim.Native.Nat.{_+_, _^_, _≤_, _<_};
 ghost use lib.ListN.{length, drop};
-ghost use Rattle.model.specs.Text.{lineEnd, noValue, leadsWell, valueOf, parts};
+ghost use Rattle.model.specs.Text.{lineEnd, parts};
 ghost use Rattle.model.specs.Sheet.{startsWith, commandOf, noLine, lineOf, refusedAt, bodyVerdict};
 ghost use Rattle.model.specs.Sheet.{sheetVerdict};
-ghost use Rattle.sheet.specs.Reading.{tickLine, digitAfter, RunTo, DigitAt, linePart, ReadAt};
+ghost use Rattle.sheet.specs.Reading.{tickLine, pairAt, fourAt, eightAt, RunTo, DigitAt};
+ghost use Rattle.sheet.specs.Reading.{linePart, ReadAt};
+use bits::join;
 use model::Command;
 use model::Line;
-use model::Value;
 use model::Verdict;
+use values::read_value;
+use values::wide;
 
 // The first line of a command sheet, its line end included.
 const FIRST_LINE: [u8; 19] = *b"op,a,b,c,d,e,f,g,h\n";
 
-// The value line of a tick without inputs, its line end included.
-const TICK_LINE: [u8; 18] = *b"0,0,0,0,0,0,0,0,0\n";
-
-fn no_value() -> Value
-    ensures { λ r. ⌜ r ≡ noValue ⌝ }
-{
-    Value {
-        ok: false,
-        number: 0,
-    }
-}
-
-fn wide(b: u8) -> u64
-    ensures { λ r. ⌜ r ≡ b ⌝ }
-{
-    b as u64
-}
-
-// The number v with one more digit, where the byte is one and the number stays below 2^64.
-fn next_digit(v: u64, b: u8) -> Value
-    ensures { λ r. ⌜ r ≡ digitAfter v b ⌝ }
-{
-    if b < 48 {
-        return no_value();
-    }
-    if 57 < b {
-        return no_value();
-    }
-    let digit = wide(b - 48);
-    if 1844674407370955161 < v {
-        return no_value();
-    }
-    let tens = v * 10;
-    if 18446744073709551615 - tens < digit {
-        return no_value();
-    }
-    Value {
-        ok: true,
-        number: tens + digit,
-    }
-}
-
-// Not empty, and a 0 in front only where it stands alone.
-fn leads_well(s: &[u8]) -> bool
-    ensures { λ r. ⌜ r ≡ leadsWell (now (s .entry)) ⌝ }
-{
-    if s.len() == 0 {
-        return false;
-    }
-    if s.len() == 1 {
-        return true;
-    }
-    s[0] != 48
-}
-
-// One value.
-pub fn read_value(s: &[u8]) -> Value
-    ensures { λ r. ⌜ r ≡ valueOf (now (s .entry)) ⌝ }
-{
-    // Most values of a sheet have one digit.
-    if s.len() == 1 {
-        return next_digit(0, s[0]);
-    }
-    if leads_well(s) {
-        let mut v: u64 = 0;
-        let mut i = 0;
-        while i < s.len() {
-            let next = next_digit(v, s[i]);
-            if !next.ok {
-                return no_value();
-            }
-            v = next.number;
-            i += 1;
-        }
-        return Value {
-            ok: true,
-            number: v,
-        };
-    }
-    no_value()
-}
+// "0,0,0,0," as a number, the first byte lowest.
+const FOUR_ZEROS: u64 = 0x2C30_2C30_2C30_2C30;
 
 // How many bytes stand before the next separator.
 fn run_length(s: &[u8], from: usize, separator: u8) -> usize
@@ -187,7 +111,31 @@ fn starts_with(s: &[u8], head: &[u8]) -> bool
     true
 }
 
-// A tick without inputs stands at this index: most lines of a sheet are such.
+// The bytes from an index on as a number, the first lowest: two, four or eight of them, which are read and compared at
+// once.
+fn pair_at(s: &[u8], at: usize) -> u64
+    requires { ⌜ at + 2 ≤ length (now s) ⌝ }
+    ensures { λ r. ⌜ (r ≡ pairAt (now (s .entry)) at) × (r < 2 ^ 16) ⌝ }
+{
+    join(wide(s[at + 1]), wide(s[at]), 8)
+}
+
+fn four_at(s: &[u8], at: usize) -> u64
+    requires { ⌜ at + 4 ≤ length (now s) ⌝ }
+    ensures { λ r. ⌜ (r ≡ fourAt (now (s .entry)) at) × (r < 2 ^ 32) ⌝ }
+{
+    join(pair_at(s, at + 2), pair_at(s, at), 16)
+}
+
+fn eight_at(s: &[u8], at: usize) -> u64
+    requires { ⌜ at + 8 ≤ length (now s) ⌝ }
+    ensures { λ r. ⌜ r ≡ eightAt (now (s .entry)) at ⌝ }
+{
+    join(four_at(s, at + 4), four_at(s, at), 32)
+}
+
+// A tick without inputs stands at this index: most lines of a sheet are such. Its line is "0,0,0,0," twice, a last 0
+// and the line end.
 pub fn is_tick_at(s: &[u8], at: usize) -> bool
     requires { ⌜ at ≤ length (now s) ⌝ }
     ensures { λ r. ⌜ r ≡ startsWith tickLine (drop at (now (s .entry))) ⌝ }
@@ -195,7 +143,16 @@ pub fn is_tick_at(s: &[u8], at: usize) -> bool
     if s.len() - at < 18 {
         return false;
     }
-    starts_with(&s[at..], &TICK_LINE)
+    if eight_at(s, at) != FOUR_ZEROS {
+        return false;
+    }
+    if eight_at(s, at + 8) != FOUR_ZEROS {
+        return false;
+    }
+    if s[at + 16] != 48 {
+        return false;
+    }
+    s[at + 17] == 10
 }
 
 // One value line, without its line end: eight values up to a comma each, and the ninth up to the end.

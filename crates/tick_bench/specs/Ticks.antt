@@ -1,17 +1,17 @@
 -- Ticks on an engine with orders, for the benchmark. Orders and input codes come from the caller, so that a compiler
 -- cannot work them out beforehand; with counts of 0 nothing is ordered, and the engine is idle.
-use Prim.Native.Nat.{ℕ}
+use Prim.Native.Nat.{ℕ, zero, suc}
 use mathlib.Core.Path.{_≡_}
 use mathlib.Core.Bool.{true, false}
 use mathlib.Core.List.{List, [], _∷_}
+use lib.Bits.{bitOr}
 use lib.Dec.{eqb}
-use lib.ListN.{replicate}
 use Rattle.model.specs.declared.Engine.{Engine}
 use Rattle.model.specs.declared.Command.{Command}
+use Rattle.model.specs.declared.Outcome.{Outcome}
 use Rattle.model.specs.Ranges.{valid}
 use Rattle.model.specs.Checks.{readsFifo}
 use Rattle.model.specs.Execute.{execute}
-use Rattle.model.specs.Run.{engineFrom, engineAfter}
 use Rattle.model.specs.Sheet.{commandOf}
 
 -- an order that moves no FIFO, on a valid record
@@ -24,10 +24,6 @@ pub record Still (e : Engine) (c : Command) : Type 0 where
 pub record Gave (e : Engine) (c : Command) (r : Engine) : Type 0 where
   pub is : r ≡ execute e c .engine
   pub keeps : valid r ≡ true
-
--- the record after one command, so many times
-abbrev pub repeated : Engine → Command → ℕ → Engine
-repeated e c n = engineFrom e (replicate n c)
 
 -- so many cycles of 7.5 ns (COUNT 15:0), and two trains of so many marked edges
 abbrev pub orders : ℕ → ℕ → List Command
@@ -42,6 +38,11 @@ orders cycles edges =
 abbrev pub tickOf : ℕ → Command
 tickOf code = commandOf (0 ∷ code ∷ code ∷ code ∷ 0 ∷ 0 ∷ 0 ∷ 0 ∷ 0 ∷ [])
 
--- the nanoseconds shown after n ticks
-abbrev pub shownAfter : ℕ → ℕ → ℕ → ℕ → ℕ
-shownAfter n cycles edges code = repeated (engineAfter (orders cycles edges)) (tickOf code) n .clock .nanoseconds
+-- the bits of what was told so far, and of one more answer and its two codes
+abbrev pub toldBy : ℕ → Outcome → ℕ
+toldBy told o = bitOr (bitOr (bitOr told (o .answer)) (o .values .w1)) (o .values .w2)
+
+-- one command, so many times: the nanoseconds shown after them, with the bits of all that was told
+unfoldable pub seenAfter : Engine → Command → ℕ → ℕ → ℕ
+seenAfter e c zero told = bitOr (e .clock .nanoseconds) told
+seenAfter e c (suc n) told = seenAfter (execute e c .engine) c n (toldBy told (execute e c))

@@ -4,7 +4,7 @@ ghost use mathlib.Core.Path.{_≡_};
 ghost use mathlib.Core.Bool.{true};
 ghost use Rattle.model.specs.Ranges.{valid};
 ghost use Rattle.model.specs.Run.{engineAfter};
-ghost use Rattle.tick_bench.specs.Ticks.{Still, Gave, repeated, orders, tickOf, shownAfter};
+ghost use Rattle.tick_bench.specs.Ticks.{Still, Gave, orders, tickOf, seenAfter};
 use model::Command;
 use model::Engine;
 
@@ -31,18 +31,20 @@ fn ordered(cycles: u64, edges: u64) -> Engine
     give(one, sheet::command_of([3, 2, 0, 5, 300, 6, 7, edges, 1]))
 }
 
-// So many ticks with a code on each input. A record that fails its check, which none does, would stay as it is.
-fn ticked(start: Engine, code: u64, n: u64, checked: bool) -> Engine
+// So many ticks with a code on each input: the nanoseconds shown at the end, with the bits of every answer and code
+// told on the way, so that none is left out. A record that fails its check, which none does, would end it.
+fn ticked(start: Engine, code: u64, n: u64, checked: bool) -> u64
     requires { ⌜ valid start ≡ true ⌝ }
-    ensures { λ r. ⌜ r ≡ repeated start (tickOf code) n ⌝ }
+    ensures { λ r. ⌜ r ≡ seenAfter start (tickOf code) n 0 ⌝ }
 {
     let c = sheet::command_of([0, code, code, code, 0, 0, 0, 0, 0]);
     let mut e = start;
+    let mut told: u64 = 0;
     let mut i: u64 = 0;
     while i < n {
         if checked {
             if !validity::is_valid(e) {
-                return e;
+                return told;
             }
         }
         let m = tick::tick(e, c);
@@ -50,17 +52,18 @@ fn ticked(start: Engine, code: u64, n: u64, checked: bool) -> Engine
             e = tick::store_timestamps(e, c);
         }
         e = change::apply(e, m);
+        let values = m.values;
+        told = told | m.answer | values.w1 | values.w2;
         i += 1;
     }
-    e
+    let clock = e.clock;
+    clock.nanoseconds | told
 }
 
-// The nanoseconds shown after n ticks, the record checked before each where `checked` is 1.
+// So many ticks after the orders, the record checked before each where `checked` is 1.
 #[no_mangle]
 pub extern "C" fn tick_bench_ticks(n: u64, cycles: u64, edges: u64, code: u64, checked: u64) -> u64
-    ensures { λ r. ⌜ r ≡ shownAfter n cycles edges code ⌝ }
+    ensures { λ r. ⌜ r ≡ seenAfter (engineAfter (orders cycles edges)) (tickOf code) n 0 ⌝ }
 {
-    let e = ticked(ordered(cycles, edges), code, n, checked == 1);
-    let clock = e.clock;
-    clock.nanoseconds
+    ticked(ordered(cycles, edges), code, n, checked == 1)
 }

@@ -8,7 +8,7 @@ ticked-requires : tie.Need-ticked-requires
 ticked-requires c κs = rw (c .ordered .ensures) (list-valid _)
 
 returns : tie.Need-returns
-returns c = rw (c .before .ticked .ensures, c .before .before .ordered .ensures)
+returns c = rw (c .ticked .ensures, c .before .ordered .ensures)
 
 pub tick-bench-ticks-spec : {M : Type 1} → statement M
 tick-bench-ticks-spec = tie.close (tie.spec (search needs) ticked-requires returns)

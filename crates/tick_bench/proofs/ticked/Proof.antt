@@ -4,20 +4,22 @@ use mathlib.Core.Path.{_≡_, refl, sym, ap, _∙_}
 use mathlib.Core.Bool.{true, cond, false≢true}
 use mathlib.Core.Logic.{⊎-elim}
 use native.Mathlib.Numerals.{unary-clauses}
+use native.Mathlib.Omega.{arith}
 use borrow.Author.Needs.{needs}
 use borrow.Author.Tests.{not-true}
 use Rattle.model.specs.Ranges.{valid}
+use Rattle.model.proofs.Laws.Valid.{execute-valid}
 use Rattle.change.specs.Changes.{timestampsStored}
-use Rattle.tick_bench.specs.Ticks.{repeated}
-use Rattle.tick_bench.proofs.Repeats.{tick-gave, turn-leads, none-left}
+use Rattle.tick_bench.specs.Ticks.{seenAfter}
+use Rattle.tick_bench.proofs.Repeats.{tick-is, turn-leads, none-left}
 use Rattle.tick_bench.proofs.ticked.Statement.{statement}
 use Rattle.tick_bench.proofs.ticked.Tie as tie
 
 abbrev Inv-loop : tie.InvT-loop
-Inv-loop code n checked c e₀ i₀ e i = (valid e ≡ true) × (repeated e c (n - i) ≡ repeated e₀ c n)
+Inv-loop code n checked c e₀ told₀ i₀ e told i = (valid e ≡ true) × (seenAfter e c (n - i) told ≡ seenAfter e₀ c n 0)
 
 abbrev μ-loop : tie.MeasureT-loop
-μ-loop code n checked c e₀ i₀ e i = n - i
+μ-loop code n checked c e₀ told₀ i₀ e told i = n - i
 
 loop-holds : tie.Need-loop-holds Inv-loop μ-loop
 loop-holds c = (c .before .pre, simp unary-clauses)
@@ -51,26 +53,40 @@ stored-is c =
     (λ w. rw (w .1, w .0 .left) refl)
     (c .if3 .came)
 
+add-i : tie.Need-add-i Inv-loop μ-loop
+add-i c =
+    let turn = c .before .before .before .before .before .before .before .before in
+    omega (arith, turn .loop-test .taken, turn .before .before .before .fits .n)
+
+loop-less : tie.Need-loop-less Inv-loop μ-loop
+loop-less c =
+    let turn = c .before .before .before .before .before .before .before .before in
+    omega (arith, turn .loop-test .taken)
+
 loop-again : tie.Need-loop-again Inv-loop μ-loop
 loop-again c =
-    let tick = c .before .before in
+    let apply = c .before .before .before .before in
+    let tick = apply .before .before in
     let turn = tick .before .before in
     let at = turn .before in
     let op = ap (λ x. x .op) (at .before .command-of .ensures) in
-    let gave = tick-gave _ _ _ (at .loop .inv .0) op (tick .tick .ensures) in
-    rw (c .apply .ensures, stored-is (c .before))
-    (gave .keeps, turn-leads _ _ _ _ gave (turn .loop-test .taken) ∙ at .loop .inv .1)
+    let is = tick-is _ _ _ op (tick .tick .ensures) in
+    rw (apply .apply .ensures, stored-is (apply .before)) (
+      ap (λ o. valid (o .engine)) is ∙ execute-valid _ _ (at .loop .inv .0),
+      turn-leads _ _ _ _ _ _ is (turn .loop-test .taken) ∙ at .loop .inv .1,
+    )
 
 returns-2 : tie.Need-returns-2 Inv-loop μ-loop
 returns-2 c =
-    let at = c .before in
+    let turn = c .before .before in
+    let at = turn .before in
     let start = at .before .before .args in
-    sym (none-left _ _ _ _ (c .loop-test .left))
+    sym (none-left _ _ _ _ _ (turn .loop-test .left))
     ∙ at .loop .inv .1
-    ∙ ap (λ x. repeated (start .start) x (start .n)) (at .before .command-of .ensures)
+    ∙ ap (λ x. seenAfter (start .start) x (start .n) 0) (at .before .command-of .ensures)
 
 pub ticked-spec : {M : Type 1} → statement M
 ticked-spec =
     tie.close
     (tie.spec Inv-loop μ-loop (search needs) loop-holds (search needs) returns tick-requires
-    store-timestamps-requires (search needs) (search needs) (search needs) loop-again returns-2)
+    store-timestamps-requires (search needs) add-i loop-less loop-again returns-2)

@@ -1,9 +1,9 @@
 -- The code branches as the definition does: on a length of 0, of 1 and of more.
 use borrow.Author.Needs.{needs}
 use borrow.Author.Tests.{eq-eqb, ne-eqb}
-use Rattle.sheet.proofs.Digits.{leads-by-length}
-use Rattle.sheet.proofs.leads_well.Statement.{statement}
-use Rattle.sheet.proofs.leads_well.Tie as tie
+use Rattle.values.proofs.Digits.{leads-by-length}
+use Rattle.values.proofs.leads_well.Statement.{statement}
+use Rattle.values.proofs.leads_well.Tie as tie
 
 returns : tie.Need-returns
 returns c = simp (leads-by-length, eq-eqb _ 0 (c .if1 .taken))

@@ -6,9 +6,9 @@ use lib.ListN.{length, drop, drop-of-length-le}
 use borrow.Author.Needs.{needs}
 use borrow.Author.Tests.{lt-ltb, not-true, not-false}
 use Rattle.model.specs.Text.{isValue, valueOf}
-use Rattle.sheet.proofs.Digits.{readAfter, read-turn, value-one}
-use Rattle.sheet.proofs.read_value.Statement.{statement}
-use Rattle.sheet.proofs.read_value.Tie as tie
+use Rattle.values.proofs.Digits.{readAfter, read-turn, value-one}
+use Rattle.values.proofs.read_value.Statement.{statement}
+use Rattle.values.proofs.read_value.Tie as tie
 
 abbrev Inv-loop : tie.InvT-loop
 Inv-loop s v₀ i₀ v i = (i ≤ length s) × (v < 2 ^ 64) × (readAfter v (drop i s) ≡ valueOf s)

@@ -14,7 +14,7 @@ use borrow.Author.Tests.{lt-ltb, le-ltb, le-leb, ltb-false, ne-eqb}
 use Rattle.model.specs.declared.Value.{Value}
 use Rattle.model.specs.Text.{isDigit, allDigits, numberAfter, leadsWell, isValue, noValue, valueOf}
 use Rattle.model.proofs.Laws.Values.{number-grows}
-use Rattle.sheet.specs.Reading.{digitAfter}
+use Rattle.values.specs.Digits.{digitAfter}
 
 abbrev valueIf : Bool → ℕ → Value
 valueIf test n = cond test (record { ok = true; number = n }) noValue

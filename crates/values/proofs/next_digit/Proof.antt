@@ -6,9 +6,9 @@ use native.Mathlib.Omega.{arith}
 use borrow.Author.Needs.{needs}
 use borrow.Author.Tests.{lt-ltb, le-ltb, le-leb, lt-leb}
 use Rattle.model.specs.Text.{noValue}
-use Rattle.sheet.specs.Reading.{digitAfter}
-use Rattle.sheet.proofs.next_digit.Statement.{statement}
-use Rattle.sheet.proofs.next_digit.Tie as tie
+use Rattle.values.specs.Digits.{digitAfter}
+use Rattle.values.proofs.next_digit.Statement.{statement}
+use Rattle.values.proofs.next_digit.Tie as tie
 
 returns : tie.Need-returns
 returns c = simp (c .no-value .ensures, lt-leb 48 _ (c .before .if1 .taken))

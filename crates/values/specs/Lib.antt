@@ -1,0 +1,2 @@
+-- One digit more.
+pub mod Digits
