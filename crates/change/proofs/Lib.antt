@@ -1,2 +1,2 @@
--- What every refusal and every change that moves no FIFO have in common.
+-- Which commands move a FIFO.
 pub mod Given

@@ -2,14 +2,15 @@
 -- that all this makes. Document 01, "Command sheet".
 use Prim.Native.Nat.{ℕ}
 use mathlib.Core.Path.{_≡_}
-use mathlib.Core.Bool.{Bool, true, false, cond}
+use mathlib.Core.Bool.{Bool, _&&_, _||_, not, cond}
 use lib.Dec.{eqb}
 use Rattle.model.specs.declared.Engine.{Engine}
 use Rattle.model.specs.declared.Command.{Command}
 use Rattle.model.specs.declared.Outcome.{Outcome}
 use Rattle.model.specs.declared.Words.{Words}
 use Rattle.model.specs.Clock.{shown}
-use Rattle.model.specs.Fifo.{captured, popped}
+use Rattle.model.specs.declared.Fifo.{Fifo}
+use Rattle.model.specs.Fifo.{isFull, captured, popped}
 use Rattle.model.specs.Record.{withFifos, fifo, withFifo}
 use Rattle.model.specs.Checks.{answerOf, tickStep, readsFifo}
 use Rattle.change.specs.declared.Change.{Change}
@@ -65,12 +66,19 @@ outcomeOf e c m = record {
   engine = applied (cond (m .moves) (fifosMoved e c) e) m;
 }
 
--- an accepted command that moves a FIFO: a tick, or a read of one
-pub record Moving (e : Engine) (c : Command) : Type 0 where
-  pub passed : answerOf e c ≡ 0
-  pub reads : eqb (c .op) 0 ≡ false → readsFifo c ≡ true
+-- an input's edge finds a place in its FIFO
+abbrev pub stores : Fifo → ℕ → Bool
+stores f code = not (eqb code 0 || isFull f)
 
--- the change makes this outcome, and a FIFO moves only where one may
+-- a FIFO moves: an accepted tick stores a timestamp, or an accepted read takes one out
+unfoldable pub movesFifo : Engine → Command → Bool
+movesFifo e c =
+    eqb (answerOf e c) 0
+    && cond (eqb (c .op) 0)
+    (stores (e .fifo1) (c .a) || (stores (e .fifo2) (c .b) || stores (e .fifo3) (c .c)))
+    (readsFifo c)
+
+-- the change makes this outcome, and says whether a FIFO moves
 pub record Gives (e : Engine) (c : Command) (o : Outcome) (m : Change) : Type 0 where
   pub is : outcomeOf e c m ≡ o
-  pub moving : m .moves ≡ true → Moving e c
+  pub moving : m .moves ≡ movesFifo e c

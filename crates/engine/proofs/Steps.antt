@@ -1,14 +1,15 @@
 -- Accepted or refused, a change is the model's outcome, which has a valid record again where the record was valid; a
 -- record that is not valid is refused with 4; and the latched bits of an accepted command's record are 16 bits.
 use Prim.Native.Nat.{ℕ, _<_, _^_}
-use mathlib.Core.Path.{_≡_, refl, ap, _∙_}
+use mathlib.Core.Path.{_≡_, refl, sym, ap, _∙_}
 use mathlib.Core.Bool.{true, false}
+use lib.Dec.{eqb}
 use borrow.Author.Tests.{eq-eqb, ne-eqb}
 use Rattle.model.specs.declared.Engine.{Engine}
 use Rattle.model.specs.declared.Command.{Command}
 use Rattle.model.specs.Words.{noWords}
 use Rattle.model.specs.Ranges.{valid}
-use Rattle.model.specs.Checks.{checks, answerOf}
+use Rattle.model.specs.Checks.{checks, answerOf, readsFifo}
 use Rattle.model.specs.Execute.{execute, performed, commanded, refused}
 use Rattle.model.proofs.Laws.Ranges.{valid-parts}
 use Rattle.model.proofs.Laws.Parts.{interrupts-in}
@@ -17,7 +18,7 @@ use Rattle.model.proofs.Laws.Checks.{accepted-facts}
 use Rattle.model.proofs.Laws.Valid.{execute-valid}
 use Rattle.change.specs.declared.Change.{Change}
 use Rattle.change.specs.Changes.{changeTo, outcomeOf, Gives}
-use Rattle.change.proofs.Given.{refused-gives}
+use Rattle.change.proofs.Given.{refused-gives, order-still}
 use Rattle.engine.specs.Stepped.{Stepped}
 
 module _ (e : Engine) (c : Command) where
@@ -25,13 +26,24 @@ module _ (e : Engine) (c : Command) where
   unfolding performed
   performed-command o = rw o refl
 
+  -- an op that is neither 0 nor 2 moves no FIFO
+  pub stays-gives : {m : Change} (n : ℕ) → c .op ≡ n → eqb n 0 ≡ false → eqb n 2 ≡ false → m .moves ≡ false
+      → outcomeOf e c m ≡ performed e c
+      → Gives e c (performed e c) m
+  stays-gives n o no-tick no-command still is =
+      let two : eqb (c .op) 2 ≡ false = ap (λ x. eqb x 2) o ∙ no-command in
+      let none : readsFifo c ≡ false = rw two refl in
+      record { is = is; moving = still ∙ sym (order-still e c (ap (λ x. eqb x 0) o ∙ no-tick) none) }
+
   pub accepted-gives : {m : Change} → answerOf e c ≡ 0 → Gives e c (performed e c) m → Gives e c (execute e c) m
   unfolding execute
   accepted-gives a g = rw (eq-eqb _ _ a) g
 
   pub order-refused : (n : ℕ) → n ≡ answerOf e c → (n ≡ 0 → ⊥) → Gives e c (execute e c) (changeTo n noWords e false)
   unfolding execute
-  order-refused n is some = rw is (refused-gives e c _ _ (rw (ne-eqb _ _ (λ z. some (is ∙ z))) refl))
+  order-refused n is some =
+      let refused = ne-eqb _ _ (λ z. some (is ∙ z)) in
+      rw is (refused-gives e c _ _ refused (rw refused refl))
 
   -- a valid record stays valid
   pub gives-stepped : {m : Change} → valid e ≡ true → Gives e c (execute e c) m → Stepped e c (outcomeOf e c m)

@@ -7,7 +7,7 @@ ghost use lib.Dec.{eqb};
 ghost use Rattle.model.specs.Record.{powerOn};
 ghost use Rattle.model.specs.Ranges.{valid};
 ghost use Rattle.model.specs.Execute.{refused as refusedSpec, performed, execute as executeSpec};
-ghost use Rattle.change.specs.Changes.{fifosMoved, Moving, Gives};
+ghost use Rattle.change.specs.Changes.{fifosMoved, movesFifo, Gives};
 ghost use Rattle.engine.specs.Stepped.{Ordered, Stepped};
 use change::Change;
 use change::apply;
@@ -88,7 +88,7 @@ pub fn change_by(e: Engine, c: Command) -> Change
 
 // The record with its FIFOs moved, where a change says that one moves.
 pub fn move_fifos(e: Engine, c: Command) -> Engine
-    requires { ⌜ Moving e c ⌝ }
+    requires { ⌜ movesFifo e c ≡ true ⌝ }
     ensures { λ r. ⌜ r ≡ fifosMoved e c ⌝ }
 {
     if c.op == 0 {

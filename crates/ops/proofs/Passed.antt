@@ -1,11 +1,11 @@
 -- An accepted command of op 2 has words in range; and a FIFO that it reads was found filled, which its write leaves
 -- alone.
 use Prim.Native.Nat.{ℕ, _<_}
-use mathlib.Core.Path.{_≡_, refl}
-use mathlib.Core.Bool.{Bool, true, false, not}
+use mathlib.Core.Path.{_≡_, refl, sym}
+use mathlib.Core.Bool.{Bool, true, false, _&&_, not, and-false}
 use native.Mathlib.Omega.{arith}
-use lib.Dec.{eqb}
-use borrow.Author.Tests.{not-true, eqb-false, ne-eqb}
+use lib.Dec.{eqb, leb}
+use borrow.Author.Tests.{eqb-true, eqb-false, eq-eqb, ne-eqb, lt-leb}
 use Rattle.model.specs.declared.Engine.{Engine}
 use Rattle.model.specs.declared.Command.{Command}
 use Rattle.model.specs.Bounds.{WordsIn}
@@ -13,7 +13,7 @@ use Rattle.model.specs.declared.Words.{Words}
 use Rattle.model.specs.Words.{noWords, timeWords}
 use Rattle.model.specs.Fifo.{entry}
 use Rattle.model.specs.Record.{withWords, fifo}
-use Rattle.model.specs.Checks.{readsFifo}
+use Rattle.model.specs.Checks.{isOp, readsFifo}
 use Rattle.model.specs.Execute.{accepted, written, stampWords, readWords, readEngine, commanded}
 use Rattle.model.proofs.Laws.Tests.{split}
 use Rattle.model.proofs.Laws.Ranges.{valid-parts, words-in}
@@ -21,8 +21,8 @@ use Rattle.model.proofs.Laws.Parts.{fifo-at-ok}
 use Rattle.model.proofs.Laws.Checks.{Accepted, accepted-facts}
 use Rattle.model.proofs.Laws.Valid.{reads-fifo, fifo-filled}
 use Rattle.change.specs.declared.Change.{Change}
-use Rattle.change.specs.Changes.{changeTo, applied, oldestTaken, outcomeOf, Gives}
-use Rattle.change.proofs.Given.{still-gives}
+use Rattle.change.specs.Changes.{changeTo, applied, oldestTaken, outcomeOf, movesFifo, Gives}
+use Rattle.change.proofs.Given.{order-still}
 use Rattle.ops.specs.Reading.{Commands, Readable, wordsRead}
 
 -- not empty is holding some
@@ -40,14 +40,20 @@ module _ (e : Engine) (c : Command) (k : Commands e c) where
   ordered : eqb (c .op) 0 ≡ false
   ordered = ne-eqb (c .op) 0 (λ z. omega (arith, k .op, z))
 
+  reads-none : eqb (c .b) 8 ≡ true → readsFifo c ≡ false
+  reads-none b8 =
+      rw (lt-leb (c .b) 3 (omega (arith, eqb-true (c .b) 8 b8))) (and-false (isOp c 2 && leb 1 (c .b)))
+
   -- the write leaves the FIFOs alone, so its record is the change to it
   pub written-gives : (now : Engine) → now ≡ written e (c .a) → eqb (c .b) 8 ≡ true
       → Gives e c (commanded e (c .a) (c .b)) (changeTo 0 noWords now false)
   unfolding commanded written
-  written-gives now is b8 = rw is (still-gives e c _ _ refl (rw b8
-      (split Same (eqb (c .a) 0) (λ y. refl) (λ y.
+  written-gives now is b8 =
+      let outcome =
+      split Same (eqb (c .a) 0) (λ y. refl) (λ y.
       split Same (eqb (c .a) 1) (λ y. refl) (λ y.
-      split Same (eqb (c .a) 2) (λ y. refl) (λ y. refl))))))
+      split Same (eqb (c .a) 2) (λ y. refl) (λ y. refl))) in
+      rw is (record { is = rw b8 outcome; moving = sym (order-still e c ordered (reads-none b8)) })
     where
       Same : Engine → Type 0
       Same x = outcomeOf e c (changeTo 0 noWords x false) ≡ accepted noWords x
@@ -99,8 +105,16 @@ module _ (e : Engine) (c : Command) (k : Commands e c) where
             (applied (oldestTaken e (c .b)) (changeTo 0 (oldestWords e) (withWords x (oldestWords e)) true))
             ≡ accepted (oldestWords x) (withWords (oldestTaken x (c .b)) (oldestWords x))
 
+    -- a FIFO moves where its selector is not 0
+    moves-by : (z : Bool) → eqb (c .b) 0 ≡ z → not z ≡ movesFifo e c
+    unfolding movesFifo
+    moves-by true y =
+        let b0 = eqb-true (c .b) 0 y in
+        sym (order-still e c ordered (rw (lt-leb 1 (c .b) (omega arith), and-false (isOp c 2)) refl))
+    moves-by false y = rw (eq-eqb _ _ (k .passed), ordered, reads y) refl
+
     pub read-gives : Gives e c (commanded e (c .a) (c .b)) changeNow
     read-gives = record {
       is = by-selector (eqb (c .b) 0) refl;
-      moving = λ h. record { passed = k .passed; reads = λ o. reads (not-true _ h) };
+      moving = moves-by (eqb (c .b) 0) refl;
     }

@@ -23,7 +23,7 @@ use Rattle.engine.specs.Stepped.{Stepped}
 use Rattle.sheet.specs.declared.Next.{Next}
 use Rattle.sheet.specs.Reading.{ReadAt}
 use Rattle.sheet.proofs.Parts.{parts-some, parts-more}
-use Rattle.sheet.proofs.Body.{LineTo, read-whole, line-passed, line-refused}
+use Rattle.sheet.proofs.Body.{LineTo, read-whole, read-end, line-passed, line-refused}
 use Rattle.writing.specs.Written.{Written}
 use Rattle.writing.proofs.Puts.{Rest, rest-whole, rest-room, rest-less, rest-none}
 
@@ -78,7 +78,7 @@ module _ {s before after : List ℕ} {from : ℕ} {e : Engine} {k at end : ℕ} 
     where
       go : (ok : Bool) → r .line .ok ≡ ok → ReadAt s at (lineRead (r .line .command) (r .end))
       go true h = record {
-        end = λ ok. read .end h;
+        end = read .end;
         line = (λ i. record { ok = sym h i; command = r .line .command }) ∙ read .line;
       }
       go false h =
@@ -94,9 +94,9 @@ module _ {s before after : List ℕ} {from : ℕ} {e : Engine} {k at end : ℕ} 
     commands-here =
         let here = firstPart lineEnd (drop at s) in
         let behind = drop (at + length here + 1) s in
-        let more : at + length here < length s = omega (arith, read .end refl, line-to .inside) in
+        let more : at + length here < length s = omega (arith, read-end read refl, line-to .inside) in
         rw (
-          read .end refl,
+          read-end read refl,
           read-command (isLine here) (commandIn here) _ (read-whole read more) refl,
           parts-more lineEnd s at (length here) refl more,
         )

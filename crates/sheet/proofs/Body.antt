@@ -15,14 +15,7 @@ use Rattle.model.specs.Sheet.{isLine, commandIn, noLine, lineOf, refusedAt, bod
 use Rattle.sheet.specs.declared.Next.{Next}
 use Rattle.sheet.specs.Reading.{ReadAt}
 use Rattle.sheet.proofs.Parts.{parts-some, parts-last, parts-more}
-
-line-if : (t : Bool) (command : Command) → cond t (record { ok = true; command = command }) noLine .ok ≡ t
-line-if true command = refl
-line-if false command = refl
-
-pub line-test : (l : List ℕ) (r : Line) → r ≡ lineOf l → (t : Bool) → r .ok ≡ t → isLine l ≡ t
-unfolding lineOf
-line-test l r e t h = sym (line-if (isLine l) (commandIn l)) ∙ (rw e at h)
+use Rattle.sheet.proofs.LineParts.{line-test, part-end}
 
 line-first : (k : ℕ) (l : List ℕ) (ps : List (List ℕ)) → 0 < length ps
     → bodyVerdict k (l ∷ ps) ≡ cond (isLine l) (bodyVerdict (k + 1) ps) (refusedAt k 3)
@@ -66,13 +59,19 @@ module _ {s : List ℕ} {at : ℕ} {r : Next} (read : ReadAt s at r) where
         | no h ↦ absurd (false≢true (sym (ap (λ x. x .ok) (read-cut (omega arith))) ∙ ok))
       ]
 
+  -- the end of a line is that of the text up to its line end
+  pub read-end : r .line .ok ≡ true → r .end ≡ at + length here
+  read-end ok =
+      let line = line-test here (r .line) (read-whole (read-inside ok)) true ok in
+      read .end ∙ part-end s at line
+
   pub line-passed : (k : ℕ) → r .line .ok ≡ true → LineTo s at k (r .end)
   line-passed k ok =
       let more = read-inside ok in
       record {
-        forth = omega (arith, read .end ok);
-        inside = omega (arith, read .end ok);
-        verdict = rw (read .end ok) (body-line s at k here refl more (r .line) (read-whole more) true ok);
+        forth = omega (arith, read-end ok);
+        inside = omega (arith, read-end ok);
+        verdict = rw (read-end ok) (body-line s at k here refl more (r .line) (read-whole more) true ok);
       }
 
   pub line-refused : (k : ℕ) → at < length s → r .line .ok ≡ false

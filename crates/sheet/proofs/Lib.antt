@@ -2,7 +2,7 @@
 pub mod Parts
 pub mod Lines
 pub mod FirstLine
+pub mod LineParts
 pub mod Eights
 pub mod Ticks
 pub mod Body
-pub mod LineParts

@@ -9,14 +9,14 @@ use lib.ListN.{length, take, drop, length-drop, drop-of-length-le}
 use lib.Seq.{take-all, take-add, take-take, drop-drop}
 use lib.Dec.{eqb, ltb}
 use borrow.Author.Tests.{eqb-false, ne-eqb, lt-ltb, le-ltb}
+use Rattle.model.specs.declared.Command.{Command}
 use Rattle.model.specs.declared.Line.{Line}
 use Rattle.model.specs.Text.{lineEnd, parts, firstPart}
-use Rattle.model.specs.Sheet.{isLine, noLine, lineOf}
+use Rattle.model.specs.Sheet.{isLine, commandIn, noLine, lineOf}
 use Rattle.model.proofs.Laws.Lines.{Lacks, line-lacks-end, command-of-line}
 use Rattle.model.proofs.Laws.Sheets.{line-length}
 use Rattle.sheet.specs.Reading.{linePart}
 use Rattle.sheet.proofs.Parts.{first-into, first-take, rest-is}
-use Rattle.sheet.proofs.Body.{line-test}
 
 -- the first bytes of a text lack what the text lacks
 lacks-take : (sep n : ℕ) (bs : List ℕ) → Lacks sep bs → Lacks sep (take n bs)
@@ -74,6 +74,14 @@ module _ (t : List ℕ) where
       go false true h i = ap lineOf (line-is-part i)
       go false false h i = rw (h, i)
 
+line-if : (t : Bool) (command : Command) → cond t (record { ok = true; command = command }) noLine .ok ≡ t
+line-if true command = refl
+line-if false command = refl
+
+pub line-test : (l : List ℕ) (r : Line) → r ≡ lineOf l → (t : Bool) → r .ok ≡ t → isLine l ≡ t
+unfolding lineOf
+line-test l r e t h = sym (line-if (isLine l) (commandIn l)) ∙ (rw e at h)
+
 cond-same : (t : Bool) (x : Line) → cond t x x ≡ x
 cond-same true x = refl
 cond-same false x = refl
@@ -103,8 +111,8 @@ module _ (s : List ℕ) (at : ℕ) where
       go true h = rw (lt-ltb (at + length line) (length s) (omega (arith, ap length (line-is-part (drop at s) h))))
       go false h = rw (h, cond-same)
 
-  pub part-end : lineOf part .ok ≡ true → at + length part ≡ at + length line
-  part-end ok = ap (λ l. at + length l) (part-is-line (drop at s) (line-test part (lineOf part) refl true ok))
+  pub part-end : isLine line ≡ true → at + length part ≡ at + length line
+  part-end h = ap (λ l. at + length l) (line-is-part (drop at s) h)
 
   -- how the part is cut out of the text: fewer than 17 bytes as they stand, else with the run behind them
   pub part-rest : length s - at < 17 → take (length s - at) (drop at s) ≡ part

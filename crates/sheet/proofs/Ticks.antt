@@ -1,6 +1,6 @@
 -- The line of a tick without inputs is 17 bytes up to its line end, so it is the first part of a text that starts with
 -- it, and it reads as nine zeros.
-use mathlib.Core.Path.{_≡_, ap}
+use mathlib.Core.Path.{_≡_, refl, sym, ap, _∙_}
 use mathlib.Core.Bool.{true}
 use mathlib.Core.List.{List, []}
 use Prim.Native.Nat.{ℕ, _+_, _≤_}
@@ -13,6 +13,7 @@ use Rattle.model.specs.Sheet.{startsWith, isLine, commandOf, lineOf}
 use Rattle.model.proofs.Laws.Sheets.{starts-in}
 use Rattle.sheet.specs.Reading.{tickLine, ReadAt}
 use Rattle.sheet.proofs.FirstLine.{starts-length}
+use Rattle.sheet.proofs.LineParts.{line-test, part-end}
 
 abbrev pub tickRead : Line
 tickRead = record { ok = true; command = commandOf [] }
@@ -35,5 +36,5 @@ module _ (s : List ℕ) (at : ℕ) (starts : startsWith tickLine (drop at s) ≡
   pub tick-read-at : ReadAt s at (record { line = tickRead; end = at + 17 })
   tick-read-at = record {
     line = rw (tick-length, lt-ltb (at + 17) (length s) (omega (arith, tick-within)), tick-line);
-    end = λ ok. rw tick-length;
+    end = sym (part-end s at (line-test _ _ refl true (ap (λ l. l .ok) tick-line)) ∙ ap (_+_ at) tick-length);
   }

@@ -39,9 +39,10 @@ pub record DigitAt (s : List ℕ) (at digit : ℕ) : Type 0 where
 abbrev pub linePart : List ℕ → List ℕ
 linePart t = take 17 t ++ firstPart lineEnd (drop 17 t)
 
--- what the value line at an index reads as, without a line end none; where it is one, the index of its line end
+-- what the value line at an index reads as, without a line end none; and the index behind the part that was read,
+-- which is that of the line end where it is a line
 pub record ReadAt (s : List ℕ) (at : ℕ) (r : Next) : Type 0 where
   pub line :
       let here = firstPart lineEnd (drop at s) in
       r .line ≡ cond (ltb (at + length here) (length s)) (lineOf here) noLine
-  pub end : r .line .ok ≡ true → r .end ≡ at + length (firstPart lineEnd (drop at s))
+  pub end : r .end ≡ at + length (linePart (drop at s))

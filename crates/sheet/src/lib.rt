@@ -193,7 +193,8 @@ fn read_line(s: &[u8]) -> Line
     }
 }
 
-// What stands at an index: what the value line there reads as, and the index of its line end.
+// What stands at an index: what the value line there reads as, and where the part that was read ends, which is at its
+// line end where it is a line.
 pub struct Next {
     pub line: Line,
     pub end: usize,

@@ -14,8 +14,9 @@ use Rattle.model.specs.Ranges.{valid}
 use Rattle.model.specs.Fields.{tickFields, fieldsOk, fieldTests}
 use Rattle.model.specs.Checks.{answerOf, checks, tickStep}
 use Rattle.model.specs.Execute.{execute, performed, accepted, tickEngine, tickValues}
-use Rattle.change.specs.Changes.{changeTo, applied, fifosMoved, Gives}
+use Rattle.change.specs.Changes.{changeTo, applied, fifosMoved, movesFifo, Gives}
 use Rattle.change.proofs.Given.{refused-gives}
+use Rattle.fifo.specs.Capture.{arrivalOf}
 use Rattle.fifo.proofs.Arrivals.{not-stored}
 use Rattle.tick.specs.Ticks.{Ticks, storesAny}
 
@@ -35,12 +36,12 @@ module _ (e : Engine) (c : Command) (v : valid e ≡ true) (o : c .op ≡ 0) whe
 
   pub fields-refused : every (tickFields c) ≡ false → Gives e c (execute e c) (changeTo 6 noWords e false)
   unfolding execute
-  fields-refused f = refused-gives e c 6 _ (rw (tick-answer, f) refl)
+  fields-refused f = refused-gives e c 6 _ (rw (tick-answer, f) refl) (rw (tick-answer, f) refl)
 
   module _ (f : every (tickFields c) ≡ true) where
     pub late-refused : inTime e ≡ false → Gives e c (execute e c) (changeTo 15 noWords e false)
     unfolding execute
-    late-refused t = refused-gives e c 15 _ (rw (tick-answer, f, t) refl)
+    late-refused t = refused-gives e c 15 _ (rw (tick-answer, f, t) refl) (rw (tick-answer, f, t) refl)
 
     pub ticks : inTime e ≡ true → Ticks e c
     ticks t = record { passed = tick-answer ∙ rw (f, t) refl; op = o }
@@ -62,8 +63,8 @@ module _ (e : Engine) (c : Command) (k : Ticks e c) where
       rw (not-stored _ _ _ _ (n .0), not-stored _ _ _ _ (n .1), not-stored _ _ _ _ (n .2)) refl
 
   pub cycle-gives : Gives e c (execute e c) (changeTo 0 (tickValues e) (tickEngine e c) (storesAny e c))
-  unfolding execute performed
+  unfolding execute performed movesFifo arrivalOf
   cycle-gives = record {
     is = ap (accepted (tickValues e)) (fifos-moved (storesAny e c) refl) ∙ rw (k .passed, k .op) refl;
-    moving = λ h. record { passed = k .passed; reads = λ n. absurd (false≢true (sym n ∙ eq-eqb _ _ (k .op))) };
+    moving = rw (eq-eqb _ _ (k .passed), eq-eqb _ _ (k .op)) refl;
   }

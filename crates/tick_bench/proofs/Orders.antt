@@ -1,22 +1,19 @@
 -- An order that reads no FIFO moves none, so its change applied to the record is the record after it.
-use mathlib.Core.Path.{_≡_, refl, sym, ap, _∙_}
-use mathlib.Core.Bool.{Bool, true, false, false≢true}
+use mathlib.Core.Path.{_≡_, ap, _∙_}
+use mathlib.Core.Bool.{false}
 use Rattle.model.specs.declared.Engine.{Engine}
 use Rattle.model.specs.declared.Command.{Command}
 use Rattle.model.specs.Ranges.{valid}
 use Rattle.model.specs.Execute.{execute}
 use Rattle.model.proofs.Laws.Valid.{execute-valid}
 use Rattle.change.specs.declared.Change.{Change}
-use Rattle.change.specs.Changes.{applied, outcomeOf, Gives}
+use Rattle.change.specs.Changes.{applied, Gives}
+use Rattle.change.proofs.Given.{order-still}
 use Rattle.tick_bench.specs.Ticks.{Still, Gave}
 
 module _ (e : Engine) (c : Command) (m : Change) (still : Still e c) (gives : Gives e c (execute e c) m) where
   moves-none : m .moves ≡ false
-  moves-none = go (m .moves) refl
-    where
-      go : (moves : Bool) → m .moves ≡ moves → moves ≡ false
-      go false h = refl
-      go true h = absurd (false≢true (sym (still .reads-none) ∙ gives .moving h .reads (still .order)))
+  moves-none = gives .moving ∙ order-still e c (still .order) (still .reads-none)
 
   pub still-gave : Gave e c (applied e m)
   still-gave =

@@ -3,8 +3,7 @@ use mathlib.Core.Path.{refl}
 use borrow.Author.Needs.{needs}
 use borrow.Author.Tests.{ne-eqb}
 use Rattle.model.specs.Execute.{performed, interruptsRead}
-use Rattle.change.proofs.Given.{still-gives}
-use Rattle.engine.proofs.Steps.{performed-command, latched-low}
+use Rattle.engine.proofs.Steps.{performed-command, stays-gives, latched-low}
 use Rattle.engine.proofs.perform.Statement.{statement}
 use Rattle.engine.proofs.perform.Tie as tie
 
@@ -16,7 +15,9 @@ read-interrupts-requires c κs = latched-low _ _ (c .before .pre .passed)
 
 returns : tie.Need-returns
 unfolding performed
-returns c = rw (c .load-words .ensures) (still-gives _ _ _ _ refl (simp (c .before .match .keys1)))
+returns c =
+    let op = c .before .match .keys1 in
+    rw (c .load-words .ensures) (stays-gives _ _ 1 op refl refl refl (simp op))
 
 returns-2 : tie.Need-returns-2
 returns-2 c =
@@ -25,30 +26,40 @@ returns-2 c =
 
 returns-3 : tie.Need-returns-3
 unfolding performed
-returns-3 c = rw (c .arm .ensures) (still-gives _ _ _ _ refl (simp (c .before .match .keys3)))
+returns-3 c =
+    let op = c .before .match .keys3 in
+    rw (c .arm .ensures) (stays-gives _ _ 3 op refl refl refl (simp op))
 
 returns-4 : tie.Need-returns-4
 unfolding performed
-returns-4 c = rw (c .stop .ensures) (still-gives _ _ _ _ refl (simp (c .before .match .keys4)))
+returns-4 c =
+    let op = c .before .match .keys4 in
+    rw (c .stop .ensures) (stays-gives _ _ 4 op refl refl refl (simp op))
 
 returns-5 : tie.Need-returns-5
 unfolding performed interruptsRead
-returns-5 c = rw (c .read-interrupts .ensures) (still-gives _ _ _ _ refl (simp (c .before .match .keys5)))
+returns-5 c =
+    let op = c .before .match .keys5 in
+    rw (c .read-interrupts .ensures) (stays-gives _ _ 5 op refl refl refl (simp op))
 
 returns-6 : tie.Need-returns-6
 unfolding performed
-returns-6 c = rw (c .set-mask .ensures) (still-gives _ _ _ _ refl (simp (c .before .match .keys6)))
+returns-6 c =
+    let op = c .before .match .keys6 in
+    rw (c .set-mask .ensures) (stays-gives _ _ 6 op refl refl refl (simp op))
 
 returns-7 : tie.Need-returns-7
 unfolding performed
-returns-7 c = rw (c .read-status .ensures) (still-gives _ _ _ _ refl (simp (c .before .match .keys7)))
+returns-7 c =
+    let op = c .before .match .keys7 in
+    rw (c .read-status .ensures) (stays-gives _ _ 7 op refl refl refl (simp op))
 
 returns-8 : tie.Need-returns-8
 unfolding performed
 returns-8 c =
     let n = c .before .match .rest in
     rw (c .show-words .ensures)
-    (still-gives _ _ _ _ refl
+    (stays-gives _ _ _ refl (c .before .before .pre .order) (ne-eqb _ _ (n .0 .0 .0 .0 .0 .1)) refl
     (simp (
       c .before .before .pre .order,
       ne-eqb _ _ (n .0 .0 .0 .0 .0 .0 .1),

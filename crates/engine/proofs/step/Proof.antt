@@ -1,5 +1,5 @@
 -- The record with its FIFOs moved, or as it was, and the parts of the change: the outcome that the change makes.
-use mathlib.Core.Path.{_≡_, refl}
+use mathlib.Core.Path.{_≡_, refl, sym, _∙_}
 use mathlib.Core.Bool.{cond}
 use mathlib.Core.Logic.{⊎-elim}
 use borrow.Author.Needs.{needs}
@@ -9,7 +9,7 @@ use Rattle.engine.proofs.step.Statement.{statement}
 use Rattle.engine.proofs.step.Tie as tie
 
 move-fifos-requires : tie.Need-move-fifos-requires
-move-fifos-requires c κs = c .before .before .change-by .ensures .moving (c .if1 .taken)
+move-fifos-requires c κs = sym (c .before .before .change-by .ensures .moving) ∙ c .if1 .taken
 
 moved-is : (c : tie.Joined1)
     → let start = c .before .before .before .args in

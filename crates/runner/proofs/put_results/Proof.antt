@@ -46,7 +46,7 @@ line-read c =
     (c .if1 .came)
 
 move-fifos-requires : tie.Need-move-fifos-requires Inv-loop μ-loop
-move-fifos-requires c κs = c .before .change-by .ensures .moving (c .if2 .taken)
+move-fifos-requires c κs = sym (c .before .change-by .ensures .moving) ∙ c .if2 .taken
 
 -- where the record has its FIFOs moved, or as they were
 moved-is : (c : tie.Joined2 Inv-loop μ-loop)

@@ -11,6 +11,7 @@ use Rattle.model.specs.Ranges.{valid}
 use Rattle.model.proofs.Laws.Valid.{execute-valid}
 use Rattle.change.specs.Changes.{timestampsStored}
 use Rattle.tick_bench.specs.Ticks.{seenAfter}
+use Rattle.change.proofs.Given.{moves-passed}
 use Rattle.tick_bench.proofs.Repeats.{tick-is, turn-leads, none-left}
 use Rattle.tick_bench.proofs.ticked.Statement.{statement}
 use Rattle.tick_bench.proofs.ticked.Tie as tie
@@ -38,7 +39,7 @@ store-timestamps-requires : tie.Need-store-timestamps-requires Inv-loop μ-loop
 store-timestamps-requires c κs =
     let at = c .before .before .before .before in
     record {
-      passed = c .before .tick .ensures .moving (c .if3 .taken) .passed;
+      passed = moves-passed _ _ (sym (c .before .tick .ensures .moving) ∙ c .if3 .taken);
       op = ap (λ x. x .op) (at .before .command-of .ensures);
     }
 
