@@ -2,9 +2,8 @@
 // returns the change to the record that a definition of the model's specs/Execute.antt gives. Document 01, "Command
 // sheet" and "The five words".
 ghost use mathlib.Core.Path.{_≡_};
-ghost use mathlib.Core.Bool.{false, not};
+ghost use mathlib.Core.Bool.{false};
 ghost use Prim.Native.Nat.{_<_, _^_};
-ghost use lib.Dec.{eqb};
 ghost use Rattle.model.specs.Bounds.{WordsIn};
 ghost use Rattle.model.specs.Fifo.{isEmpty};
 ghost use Rattle.model.specs.Generator.{idleGenerator};

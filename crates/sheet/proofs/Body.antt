@@ -8,10 +8,9 @@ use native.Mathlib.Decide.{decLt}
 use native.Mathlib.Omega.{arith}
 use lib.ListN.{length, drop, length-drop}
 use borrow.Author.Tests.{lt-ltb, le-ltb, ne-eqb}
-use Rattle.model.specs.declared.Command.{Command}
 use Rattle.model.specs.declared.Line.{Line}
 use Rattle.model.specs.Text.{lineEnd, parts, firstPart}
-use Rattle.model.specs.Sheet.{isLine, commandIn, noLine, lineOf, refusedAt, bodyVerdict}
+use Rattle.model.specs.Sheet.{isLine, noLine, lineOf, refusedAt, bodyVerdict}
 use Rattle.sheet.specs.declared.Next.{Next}
 use Rattle.sheet.specs.Reading.{ReadAt}
 use Rattle.sheet.proofs.Parts.{parts-some, parts-last, parts-more}

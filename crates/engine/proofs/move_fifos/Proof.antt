@@ -1,6 +1,4 @@
 -- The definition's two cases; a FIFO that is read was found filled.
-use mathlib.Core.Path.{_≡_}
-use borrow.Author.Needs.{needs}
 use borrow.Author.Tests.{eq-eqb, ne-eqb}
 use Rattle.model.proofs.Laws.Checks.{accepted-facts}
 use Rattle.model.proofs.Laws.Valid.{fifo-filled}
