@@ -18,7 +18,3 @@ valid-by-groups e h = simp (h, and-true, and-assoc)
 pub and-left-comm : (a b c : Bool) → (a && (b && c)) ≡ (b && (a && c))
 and-left-comm true b c = refl
 and-left-comm false b c = sym (and-false b)
-
--- three tests of two, part by part or one after the other
-pub in-pairs : (a b c x y z : Bool) → ((a && x) && ((b && y) && (c && z))) ≡ ((a && (b && c)) && (x && (y && z)))
-in-pairs a b c x y z = simp (and-assoc, and-left-comm)

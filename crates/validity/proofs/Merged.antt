@@ -1,8 +1,8 @@
--- Two numbers merged into one, by `|` or as the larger of the two: it is below a limit just where both are. For `|`
--- the limit is a power of 2, since a bit is set where one of the two has it set.
+-- Two numbers merged into one by `|`: it is below a power of 2 just where both are, since a bit is set where one of
+-- the two has it set.
 use mathlib.Core.Path.{_≡_, refl, sym, _∙_}
 use mathlib.Core.Bool.{_&&_}
-use Prim.Native.Nat.{ℕ, zero, suc, _^_, _<_, max}
+use Prim.Native.Nat.{ℕ, zero, suc, _^_}
 use native.Mathlib.Omega.{arith}
 use lib.Bits.{bitOr, or-lt, or-comm}
 use lib.Dec.{ltb, leb, eqb, leb·suc-suc, leb·suc-zero, eqb·suc-zero}
@@ -10,20 +10,14 @@ use borrow.Author.Tests.{ltb-true, lt-ltb}
 use Rattle.model.proofs.Laws.Tests.{both, both-true}
 use Rattle.interrupts.proofs.Masks.{le-or, both-ways}
 
-merged-below : (z x y n : ℕ) → (z < n → (x < n) × (y < n)) → (x < n → y < n → z < n)
-    → ltb z n ≡ (ltb x n && ltb y n)
-merged-below z x y n apart together =
-    both-ways (ltb z n) (ltb x n && ltb y n)
-    (λ t. let l = apart (ltb-true z n t) in both-true _ _ (lt-ltb x n (l .0)) (lt-ltb y n (l .1)))
-    (λ t. let h = both (ltb x n) (ltb y n) t in
-    lt-ltb z n (together (ltb-true x n (h .0)) (ltb-true y n (h .1))))
-
-pub max-below : (n x y : ℕ) → ltb (max x y) n ≡ (ltb x n && ltb y n)
-max-below n x y = merged-below (max x y) x y n (λ l. omega arith) (λ l m. omega arith)
-
 pub or-below : (k x y : ℕ) → ltb (bitOr x y) (2 ^ k) ≡ (ltb x (2 ^ k) && ltb y (2 ^ k))
 or-below k x y =
-    merged-below (bitOr x y) x y (2 ^ k) (λ l. omega (arith, le-or x y, le-or y x, or-comm x y)) (or-lt k x y)
+    let n = 2 ^ k in
+    both-ways (ltb (bitOr x y) n) (ltb x n && ltb y n)
+    (λ t. let l = ltb-true (bitOr x y) n t in
+    both-true _ _ (lt-ltb x n (omega (arith, le-or x y))) (lt-ltb y n (omega (arith, le-or y x, or-comm x y))))
+    (λ t. let h = both (ltb x n) (ltb y n) t in
+    lt-ltb (bitOr x y) n (or-lt k x y (ltb-true x n (h .0)) (ltb-true y n (h .1))))
 
 -- 0 is what is below 1, and 0 and 1 are what is below 2
 zero-below : (x : ℕ) → eqb x 0 ≡ ltb x 1

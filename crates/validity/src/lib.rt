@@ -1,16 +1,17 @@
 // The record's check: number 4. One function for each part of the record, and the whole. Each returns a definition
 // of the model's specs/Ranges.antt. The clock comes first: a pending instant is compared with it place by place. The
-// three FIFOs are looked at together, in straight loops over the eight places, which the compiler can make code of
-// with no branch and no copy. Document 01, "Where each command is checked", below the table.
+// three FIFOs are looked at together, place by place, in one loop of which the compiler can make straight code with no
+// copy. Document 01, "Where each command is checked", below the table.
 ghost use mathlib.Core.Path.{_≡_};
-ghost use Prim.Native.Nat.{max};
+ghost use mathlib.Core.Bool.{_&&_, cond};
 ghost use lib.Dec.{eqb};
-ghost use Rattle.model.specs.Tests.{every};
+ghost use Rattle.model.specs.Tests.{every, everyBelow};
 ghost use Rattle.model.specs.Clock.{shown};
 ghost use Rattle.model.specs.Bounds.{ClockIn};
-ghost use Rattle.model.specs.Ranges.{clockOk, amountOk, adjustmentOk, steeringOk, timestampOk, timestampZero, fifoOk};
+ghost use Rattle.model.specs.Ranges.{clockOk, amountOk, adjustmentOk, steeringOk, timestampOk, timestampZero};
+ghost use Rattle.model.specs.Ranges.{placeOk, fifoOk};
 ghost use Rattle.model.specs.Ranges.{runningTests, idleTests, generatorOk, interruptsOk, wordsOk, valid};
-ghost use Rattle.validity.specs.Fifos.{ofThree, placesBelow, restBelow};
+ghost use Rattle.validity.specs.Fifos.{ofThree, inOrder};
 use model::Adjustment;
 use model::Clock;
 use model::ENABLED_MASK;
@@ -28,8 +29,8 @@ use model::Timestamp;
 use model::WORD_LIMIT;
 use model::Words;
 use tests::both;
+use tests::either;
 use tests::fails;
-use tests::pick;
 
 fn clock_ok(k: Clock) -> bool
     ensures { λ r. ⌜ r ≡ clockOk k ⌝ }
@@ -66,13 +67,6 @@ fn steering_ok(s: Steering) -> bool
     both(amount_ok(s.period), adjustment_ok(s.adjustment))
 }
 
-// The larger of two numbers.
-fn larger(x: u64, y: u64) -> u64
-    ensures { λ r. ⌜ r ≡ max x y ⌝ }
-{
-    if x < y { y } else { x }
-}
-
 // Every bit that a timestamp has set: 0 just for the zero timestamp.
 fn bits_of(t: Timestamp) -> u64
     ensures { λ r. ⌜ eqb r 0 ≡ timestampZero t ⌝ }
@@ -80,91 +74,68 @@ fn bits_of(t: Timestamp) -> u64
     t.seconds | t.nanoseconds | t.rising
 }
 
-// Every place of the three FIFOs holds zero.
-fn all_free(fifo1: Fifo, fifo2: Fifo, fifo3: Fifo) -> bool
-    ensures { λ r. ⌜ r ≡ ofThree (placesBelow 8 timestampZero) fifo1 fifo2 fifo3 ⌝ }
-{
-    let mut seen = 0u64;
-    let mut place = 0;
-    while place < 8 {
-        seen = seen
-            | bits_of(fifo1.entries[place])
-            | bits_of(fifo2.entries[place])
-            | bits_of(fifo3.entries[place]);
-        place += 1;
-    }
-    seen == 0
+// What was seen of places of FIFOs: the seconds and the directions of used places, each as one `|`, every bit that
+// is set in the other places, and whether a used place has too many nanoseconds. The `|` of numbers is below a power
+// of 2 just where all of them are.
+struct Seen {
+    seconds: u64,
+    rising: u64,
+    rest: u64,
+    late: bool,
 }
 
-// Every place of the three FIFOs holds a timestamp in range; zero is one. The `|` of numbers is below a power of 2
-// just where all of them are, and the largest of them is below any limit just where all are.
-fn in_range(fifo1: Fifo, fifo2: Fifo, fifo3: Fifo) -> bool
-    ensures { λ r. ⌜ r ≡ ofThree (placesBelow 8 timestampOk) fifo1 fifo2 fifo3 ⌝ }
+// One more place, used or not.
+fn see(s: Seen, t: Timestamp, used: bool) -> Seen
+    ensures { λ r. ⌜ inOrder r ≡ (inOrder s && cond used (timestampOk t) (timestampZero t)) ⌝ }
 {
-    let mut seconds = 0u64;
-    let mut nanoseconds = 0u64;
-    let mut rising = 0u64;
+    if used {
+        return Seen {
+            seconds: s.seconds | t.seconds,
+            rising: s.rising | t.rising,
+            rest: s.rest,
+            late: either(s.late, NS_PER_SECOND <= t.nanoseconds),
+        };
+    }
+    Seen {
+        seconds: s.seconds,
+        rising: s.rising,
+        rest: s.rest | bits_of(t),
+        late: s.late,
+    }
+}
+
+// A used place holds a timestamp in range, and any other holds zero.
+fn places_ok(fifo1: Fifo, fifo2: Fifo, fifo3: Fifo) -> bool
+    ensures { λ r. ⌜ r ≡ everyBelow 8 (λ i. ofThree (λ f. placeOk f i) fifo1 fifo2 fifo3) ⌝ }
+{
+    let mut seen = Seen {
+        seconds: 0,
+        rising: 0,
+        rest: 0,
+        late: false,
+    };
     let mut place = 0;
     while place < 8 {
-        let t1 = fifo1.entries[place];
-        let t2 = fifo2.entries[place];
-        let t3 = fifo3.entries[place];
-        seconds = seconds | t1.seconds | t2.seconds | t3.seconds;
-        nanoseconds = larger(
-            larger(larger(nanoseconds, t1.nanoseconds), t2.nanoseconds),
-            t3.nanoseconds,
-        );
-        rising = rising | t1.rising | t2.rising | t3.rising;
+        let n = place as u64;
+        let one = see(seen, fifo1.entries[place], n < fifo1.count);
+        let two = see(one, fifo2.entries[place], n < fifo2.count);
+        seen = see(two, fifo3.entries[place], n < fifo3.count);
+        if seen.late {
+            return false;
+        }
         place += 1;
     }
     both(
-        seconds < SECONDS_LIMIT,
-        both(nanoseconds < NS_PER_SECOND, rising <= 1),
+        seen.rest == 0,
+        both(seen.seconds < SECONDS_LIMIT, seen.rising <= 1),
     )
 }
 
-// Every place of the three FIFOs that is not used holds zero. A reach is how many places there are up to the last that
-// does not hold zero.
-fn rest_free(fifo1: Fifo, fifo2: Fifo, fifo3: Fifo) -> bool
-    ensures { λ r. ⌜ r ≡ ofThree (restBelow 8) fifo1 fifo2 fifo3 ⌝ }
-{
-    let mut reach1 = 0u64;
-    let mut reach2 = 0u64;
-    let mut reach3 = 0u64;
-    let mut place = 0;
-    while place < 8 {
-        let t1 = fifo1.entries[place];
-        let t2 = fifo2.entries[place];
-        let t3 = fifo3.entries[place];
-        place += 1;
-        reach1 = pick(bits_of(t1) == 0, reach1, place as u64);
-        reach2 = pick(bits_of(t2) == 0, reach2, place as u64);
-        reach3 = pick(bits_of(t3) == 0, reach3, place as u64);
-    }
-    both(
-        reach1 <= fifo1.count,
-        both(reach2 <= fifo2.count, reach3 <= fifo3.count),
-    )
-}
-
-// A used place holds a timestamp in range and any other holds zero, so that every place is in range. Most FIFOs are
-// empty or full, hence the shortcuts: three empty ones have no used place, and three full ones no other.
 fn fifos_ok(fifo1: Fifo, fifo2: Fifo, fifo3: Fifo) -> bool
     ensures { λ r. ⌜ r ≡ ofThree fifoOk fifo1 fifo2 fifo3 ⌝ }
 {
-    if both(fifo1.count == 0, both(fifo2.count == 0, fifo3.count == 0)) {
-        return all_free(fifo1, fifo2, fifo3);
-    }
-    if !in_range(fifo1, fifo2, fifo3) {
-        return false;
-    }
-    if both(fifo1.count == 8, both(fifo2.count == 8, fifo3.count == 8)) {
-        return true;
-    }
-    both(
-        rest_free(fifo1, fifo2, fifo3),
-        both(fifo1.count <= 8, both(fifo2.count <= 8, fifo3.count <= 8)),
-    )
+    let few = both(fifo1.count <= 8, both(fifo2.count <= 8, fifo3.count <= 8));
+    both(few, places_ok(fifo1, fifo2, fifo3))
 }
 
 // Op 3's limits, and the pending instant.

@@ -1,40 +1,19 @@
--- Three empty FIFOs are in order just where all places hold zero, and three full ones just where all are in range. Any
--- others are where all places are in range, the rest is free and the counts are at most 8; the first decides early.
-use mathlib.Core.Path.{sym, _∙_}
-use borrow.Author.Tests.{not-true, not-false}
+-- The definition tests a count and the places FIFO by FIFO. Here the three counts come first, and then the three FIFOs
+-- place by place: the same tests in another order.
+use lib.Dec.{leb}
 use borrow.Author.Needs.{needs}
-use Rattle.validity.proofs.Places.{three-parts, three-empty, three-full}
+use Rattle.model.specs.Ranges.{placeOk, fifoOk}
+use Rattle.validity.proofs.Places.{by-fifos}
 use Rattle.validity.proofs.fifos_ok.Statement.{statement}
 use Rattle.validity.proofs.fifos_ok.Tie as tie
 
 returns : tie.Need-returns
+unfolding fifoOk
 returns c =
-    let test = c .before .before in
-    let empty = rw (test .both2 .ensures, test .before .both .ensures) at (c .before .if1 .taken) in
-    c .all-free .ensures ∙ sym (three-empty _ _ _ empty)
-
-returns-2 : tie.Need-returns-2
-returns-2 c =
-    let out = sym (c .before .in-range .ensures) ∙ not-true _ (c .if2 .taken) in
-    sym (three-parts _ _ _ ∙ rw out)
-
-returns-3 : tie.Need-returns-3
-returns-3 c =
-    let test = c .before in
-    let passed = test .before .before .before .before .before in
-    let full = rw (test .both4 .ensures, test .before .both3 .ensures) at (c .if3 .taken) in
-    sym (three-full _ _ _ full ∙ sym (passed .before .in-range .ensures) ∙ not-false _ (passed .if2 .left))
-
-returns-4 : tie.Need-returns-4
-returns-4 c =
-    let rest = c .before .before .before .before .before .before in
-    let passed = rest .before .before .before .before .before .before .before in
-    let within = sym (passed .before .in-range .ensures) ∙ not-false _ (passed .if2 .left) in
-    simp (c .both7 .ensures, c .before .both6 .ensures, c .before .before .both5 .ensures, rest .rest-free .ensures)
-    (sym (three-parts _ _ _ ∙ rw within))
+    let few = c .before .before in
+    let args = few .before .before .before .before .before .args in
+    rw (c .both3 .ensures, c .before .places-ok .ensures, few .both2 .ensures, few .before .both .ensures)
+    (by-fifos 8 (λ f. leb (f .count) 8) placeOk (args .fifo1) (args .fifo2) (args .fifo3))
 
 pub fifos-ok-spec : {M : Type 1} → statement M
-fifos-ok-spec =
-    tie.close
-    (tie.spec (search needs) (search needs) (search needs) returns (search needs) returns-2 (search needs)
-    (search needs) returns-3 (search needs) (search needs) (search needs) (search needs) returns-4)
+fifos-ok-spec = tie.close (tie.spec (search needs) (search needs) (search needs) (search needs) returns)
