@@ -2,10 +2,11 @@
 // Each function returns a definition of the model's specs/Interrupts.antt. Document 01, "Interrupt words"; sheet
 // 000, 7.2.18 to 7.2.20.
 ghost use mathlib.Core.Path.{_≡_};
+ghost use mathlib.Core.Bool.{_&&_};
 ghost use Prim.Native.Nat.{_<_, _^_};
-ghost use Rattle.model.specs.Interrupts.{positions, hasBit, withBit, latch as latchSpec, anyBoth};
+ghost use Rattle.model.specs.Interrupts.{positions, hasBit, withBit, anyBoth};
 ghost use Rattle.model.specs.Interrupts.{interruptWord, statusWord, onlyBits};
-ghost use Rattle.interrupts.specs.Position.{positionOf, PositionOf};
+ghost use Rattle.interrupts.specs.Position.{positionOf, PositionOf, latchOne, latchTwo};
 use tests::both;
 use tests::pick;
 
@@ -34,19 +35,23 @@ fn is_set(word: u64, source: usize) -> bool
     (word >> position(source)) & 1 == 1
 }
 
-// The word with the bit of each source set whose event came; the events stand in the table's order.
-pub fn latch(word: u64, events: [bool; 11]) -> u64
-    ensures { λ r. ⌜ r ≡ latchSpec positions events word ⌝ }
+// The word with the bit of a source set where its event came.
+pub fn latch(word: u64, source: usize, came: bool) -> u64
+    requires { ⌜ source < 11 ⌝ }
+    ensures { λ r. ⌜ r ≡ latchOne source came word ⌝ }
 {
-    let mut latched = word;
-    let mut source = 0;
-    while source < 11 {
-        if events[source] {
-            latched = set(latched, source);
-        }
-        source += 1;
+    if came { set(word, source) } else { word }
+}
+
+// The same for a source and the next in the table, which share a cause; where there was none, neither is looked at.
+pub fn latch_two(word: u64, source: usize, cause: bool, first: bool, second: bool) -> u64
+    requires { ⌜ source < 10 ⌝ }
+    ensures { λ r. ⌜ r ≡ latchTwo source (cause && first) (cause && second) word ⌝ }
+{
+    if cause {
+        return latch(latch(word, source, first), source + 1, second);
     }
-    latched
+    word
 }
 
 // Some source is set in both words.

@@ -1,2 +1,2 @@
--- What a tick asks, and the list of its events.
+-- What a tick asks, and what it leaves of a part.
 pub mod Ticks

@@ -7,11 +7,12 @@ ghost use Rattle.model.specs.Words.{five};
 ghost use Rattle.model.specs.Ranges.{valid};
 ghost use Rattle.model.specs.Execute.{tickEngine, tickValues, execute};
 ghost use Rattle.change.specs.Changes.{changeTo, timestampsStored, Gives};
-ghost use Rattle.tick.specs.Ticks.{Ticks, steeringAfter, eventsOf, interruptsAfter, storesAny};
+ghost use Rattle.tick.specs.Ticks.{Ticks, steeringAfter, storesAny};
 use change::Change;
 use change::change_to;
-use fifo::Arrival;
 use generator::Advanced;
+use interrupts::latch;
+use interrupts::latch_two;
 use model::Command;
 use model::Engine;
 use model::Interrupts;
@@ -44,38 +45,8 @@ fn codes(output1: Advanced, output2: Advanced) -> Words
     }
 }
 
-// The bit of each event is set; the events stand in the order of the table of bit positions.
-fn latch_events(
-    i: Interrupts,
-    last: bool,
-    output1: Advanced,
-    output2: Advanced,
-    input1: Arrival,
-    input2: Arrival,
-    input3: Arrival,
-) -> Interrupts
-    ensures { λ r. ⌜ r ≡ interruptsAfter i (eventsOf last output1 output2 input1 input2 input3) ⌝ }
-{
-    let events = [
-        last,
-        output1.event,
-        output1.sequence,
-        output2.event,
-        output2.sequence,
-        input1.first,
-        input1.overflow,
-        input2.first,
-        input2.overflow,
-        input3.first,
-        input3.overflow,
-    ];
-    Interrupts {
-        latched: interrupts::latch(i.latched, events),
-        enabled: i.enabled,
-    }
-}
-
-// An accepted tick, from the record before it.
+// An accepted tick, from the record before it. Events are latched in the order of the table of bit positions, each
+// where it arises, so that a part to which nothing happens costs no more than the look at it.
 fn cycle(e: Engine, c: Command) -> Change
     requires { ⌜ Ticks e c ⌝ }
     ensures { λ r. ⌜ r ≡ changeTo 0 (tickValues e) (tickEngine e c) (storesAny e c) ⌝ }
@@ -83,13 +54,21 @@ fn cycle(e: Engine, c: Command) -> Change
     let amount = clock::cycle_amount(e.steering);
     let step = clock::step_by(e.clock, amount);
     let next = clock::tick_clock(e.clock, amount, step);
+    let tac = latch(
+        e.interrupts.latched,
+        0,
+        clock::is_last_cycle(e.steering.adjustment),
+    );
     let output1 = generator::advance(e.generator1, e.clock, next, step);
+    let p1 = latch_two(tac, 1, output1.code != 0, output1.event, output1.sequence);
     let output2 = generator::advance(e.generator2, e.clock, next, step);
+    let p2 = latch_two(p1, 3, output2.code != 0, output2.event, output2.sequence);
     let input1 = fifo::arrive(e.fifo1, c.a);
+    let ts1 = latch_two(p2, 5, c.a != 0, input1.first, input1.overflow);
     let input2 = fifo::arrive(e.fifo2, c.b);
+    let ts2 = latch_two(ts1, 7, c.b != 0, input2.first, input2.overflow);
     let input3 = fifo::arrive(e.fifo3, c.c);
-    let last = clock::is_last_cycle(e.steering.adjustment);
-    let latched = latch_events(e.interrupts, last, output1, output2, input1, input2, input3);
+    let ts3 = latch_two(ts2, 9, c.c != 0, input3.first, input3.overflow);
     let generator1 = output1.generator;
     let generator2 = output2.generator;
     let words = e.words;
@@ -100,7 +79,10 @@ fn cycle(e: Engine, c: Command) -> Change
         steering: spend_cycle(e.steering),
         generator1: generator1,
         generator2: generator2,
-        interrupts: latched,
+        interrupts: Interrupts {
+            latched: ts3,
+            enabled: e.interrupts.enabled,
+        },
         words: words,
         moves: either(input1.stored, either(input2.stored, input3.stored)),
     }

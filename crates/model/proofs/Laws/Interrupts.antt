@@ -110,7 +110,7 @@ code-some direction p =
     (λ z. ne-eqb (p + 9) 0 (λ n. omega arith))
     (λ z. ne-eqb (p + 1) 0 (λ n. omega arith))
 
-placed-due : (g : Generator) (a s : ℕ) → not (eqb (placed g a s) 0) ≡ isDue g a s
+pub placed-due : (g : Generator) (a s : ℕ) → not (eqb (placed g a s) 0) ≡ isDue g a s
 unfolding placed
 placed-due g a s = by (isDue g a s)
   where
