@@ -18,7 +18,7 @@ extern "C" {
 
 #[link(name = "tick_bench", kind = "static")]
 extern "C" {
-    fn tick_bench_ticks(n: u64, cycles: u64, edges: u64, code: u64, checked: u64) -> u64;
+    fn tick_bench_ticks(n: u64, cycles: u64, edges: u64, stamps: u64, code: u64, checked: u64) -> u64;
 }
 
 fn command(op: u64, fields: &[u64]) -> Command {
@@ -27,26 +27,44 @@ fn command(op: u64, fields: &[u64]) -> Command {
     Command { op, f }
 }
 
-/// The adjust cycles, the edges of each train and the input code of an idle engine, or of a busy one.
-fn orders(busy: bool) -> [u64; 3] {
-    if busy { [65535, 4_294_967_295, 16] } else { [0, 0, 0] }
+/// What ticks work on: adjust cycles, edges of each train, timestamps in each FIFO, and the code on each input.
+#[derive(Clone, Copy)]
+struct Load {
+    cycles: u64,
+    edges: u64,
+    stamps: u64,
+    code: u64,
 }
 
-/// The tuned engine with the orders that `tick_bench` gives, then n ticks.
-fn tuned_ticks(n: u64, [cycles, edges, code]: [u64; 3], checked: bool) -> u64 {
-    let mut e = tuned::Engine::new();
-    e.execute(&command(1, &[0, cycles, 0, 0, 1920]));
-    e.execute(&command(2, &[2, 8]));
-    e.execute(&command(3, &[1, 0, 3, 256, 1, 3, edges, 1]));
-    e.execute(&command(3, &[2, 0, 5, 300, 6, 7, edges, 1]));
+const IDLE: Load = Load { cycles: 0, edges: 0, stamps: 0, code: 0 };
+const BUSY: Load = Load { cycles: 65535, edges: 4_294_967_295, stamps: 0, code: 16 };
+const PARTLY: Load = Load { stamps: 3, code: 0, ..BUSY };
+
+/// The bits of all that n ticks tell. The record is the caller's, so no part of it can be left out.
+#[inline(never)]
+fn tuned_ticked(e: &mut tuned::Engine, code: u64, n: u64, checked: bool) -> u64 {
     let tick = command(0, &[code, code, code]);
+    let mut told = 0;
     for _ in 0..n {
         if checked && !e.is_valid() {
             break;
         }
-        black_box(e.execute(&tick));
+        let o = e.execute(&tick);
+        told |= o.answer | o.values[0] | o.values[1];
     }
-    e.nanoseconds()
+    told
+}
+
+/// The tuned engine with the orders and timestamps that `tick_bench` gives, then n ticks.
+fn tuned_ticks(n: u64, load: Load, checked: bool) -> u64 {
+    let mut e = tuned::Engine::new();
+    e.execute(&command(1, &[0, load.cycles, 0, 0, 1920]));
+    e.execute(&command(2, &[2, 8]));
+    e.execute(&command(3, &[1, 0, 3, 256, 1, 3, load.edges, 1]));
+    e.execute(&command(3, &[2, 0, 5, 300, 6, 7, load.edges, 1]));
+    let before = tuned_ticked(&mut e, 16, load.stamps, false);
+    let told = tuned_ticked(&mut e, load.code, n, checked);
+    e.nanoseconds() | before | told
 }
 
 /// A sheet of n lines: tick lines; or a busy one, with two trains, steering, inputs, and timestamps and interrupts
@@ -71,47 +89,52 @@ fn sheet_of(n: u64, busy: bool) -> Vec<u8> {
     s
 }
 
-/// A row: its name, how many lines a sheet has (0 for ticks alone), and what is done.
-struct Row {
-    name: &'static str,
-    lines: u64,
-    busy: bool,
-    checked: bool,
+/// What a row does: ticks on a load, with check 4 before each or without, or whole sheets of so many lines.
+enum Work {
+    Ticks { load: Load, checked: bool },
+    Sheets { lines: u64, busy: bool },
 }
+use Work::{Sheets, Ticks};
 
-const fn row(name: &'static str, lines: u64, busy: bool, checked: bool) -> Row {
-    Row { name, lines, busy, checked }
-}
-
-const ROWS: [Row; 9] = [
-    row("tick, idle", 0, false, false),
-    row("tick, idle, check 4", 0, false, true),
-    row("tick, busy", 0, true, false),
-    row("tick, busy, check 4", 0, true, true),
-    row("line of a sheet of 10 ticks", 10, false, true),
-    row("line of a sheet of 100 ticks", 100, false, true),
-    row("line of a sheet of 1,000 ticks", 1000, false, true),
-    row("line of a sheet of 3,600 ticks", 3600, false, true),
-    row("line of a busy sheet of 3,500", 3500, true, true),
+const ROWS: [(&str, Work); 11] = [
+    ("tick, idle", Ticks { load: IDLE, checked: false }),
+    ("tick, idle, check 4", Ticks { load: IDLE, checked: true }),
+    ("tick, busy", Ticks { load: BUSY, checked: false }),
+    ("tick, busy, check 4", Ticks { load: BUSY, checked: true }),
+    ("tick, FIFOs partly filled", Ticks { load: PARTLY, checked: false }),
+    ("tick, FIFOs partly filled, check 4", Ticks { load: PARTLY, checked: true }),
+    ("line of a sheet of 10 ticks", Sheets { lines: 10, busy: false }),
+    ("line of a sheet of 100 ticks", Sheets { lines: 100, busy: false }),
+    ("line of a sheet of 1,000 ticks", Sheets { lines: 1000, busy: false }),
+    ("line of a sheet of 3,600 ticks", Sheets { lines: 3600, busy: false }),
+    ("line of a busy sheet of 3,500", Sheets { lines: 3500, busy: true }),
 ];
 
 /// Does n ticks, or n lines in whole sheets, by Lendaru or by the tuned engine; returns how many units were done.
-fn work(row: &Row, n: u64, ours: bool) -> u64 {
-    if row.lines == 0 {
-        let [cycles, edges, code] = black_box(orders(row.busy));
-        black_box(if ours {
-            // SAFETY: it takes numbers.
-            unsafe { tick_bench_ticks(n, cycles, edges, code, row.checked.into()) }
-        } else {
-            tuned_ticks(n, [cycles, edges, code], row.checked)
-        });
-        return n;
+fn work(work: &Work, n: u64, ours: bool) -> u64 {
+    match *work {
+        Ticks { load, checked } => ticks(n, black_box(load), checked, ours),
+        Sheets { lines, busy } => sheets(n, lines, busy, ours),
     }
-    let sheet = sheet_of(row.lines, row.busy);
+}
+
+fn ticks(n: u64, load: Load, checked: bool, ours: bool) -> u64 {
+    let Load { cycles, edges, stamps, code } = load;
+    black_box(if ours {
+        // SAFETY: it takes numbers.
+        unsafe { tick_bench_ticks(n, cycles, edges, stamps, code, checked.into()) }
+    } else {
+        tuned_ticks(n, load, checked)
+    });
+    n
+}
+
+fn sheets(n: u64, lines: u64, busy: bool, ours: bool) -> u64 {
+    let sheet = sheet_of(lines, busy);
     // SAFETY: it takes nothing.
     let mut out = vec![0; unsafe { lendaru_results_room() }];
     let (mut commands, mut text) = (Vec::with_capacity(3640), Vec::with_capacity(out.len()));
-    let sheets = n.div_ceil(row.lines);
+    let sheets = n.div_ceil(lines);
     for _ in 0..sheets {
         if ours {
             // SAFETY: both are slices of Rust, and they do not overlap.
@@ -121,13 +144,13 @@ fn work(row: &Row, n: u64, ours: bool) -> u64 {
             black_box(&text);
         }
     }
-    sheets * row.lines
+    sheets * lines
 }
 
 /// Nanoseconds of a unit, Lendaru's and the tuned engine's: the best of many short runs by turns, so that a change of
 /// the machine's clock meets both.
-fn nanoseconds(row: &Row) -> [f64; 2] {
-    let n = if row.lines == 0 { 30_000 } else { 36_000 };
+fn nanoseconds(row: &Work) -> [f64; 2] {
+    let n = if matches!(row, Ticks { .. }) { 30_000 } else { 36_000 };
     let mut best = [f64::INFINITY; 2];
     for _ in 0..60 {
         for (who, best) in best.iter_mut().enumerate() {
@@ -159,18 +182,18 @@ fn instructions(index: usize, ours: bool) -> Option<f64> {
 fn main() {
     let args: Vec<u64> = std::env::args().skip(1).map(|a| a.parse().expect("a number")).collect();
     if let [row, n, ours] = args[..] {
-        work(&ROWS[row as usize], n, ours == 1);
+        work(&ROWS[row as usize].1, n, ours == 1);
         return;
     }
     println!("| Row | ns | tuned Rust, ns | ratio | instructions | tuned Rust | ratio |");
     println!("|---|---|---|---|---|---|---|");
-    for (i, row) in ROWS.iter().enumerate() {
+    for (i, (name, row)) in ROWS.iter().enumerate() {
         let [a, b] = nanoseconds(row);
         let counted = match (instructions(i, true), instructions(i, false)) {
             (Some(x), Some(y)) => format!("{x:.0} | {y:.0} | {:.2}", x / y),
             _ => "- | - | -".to_string(),
         };
-        println!("| {} | {a:.1} | {b:.1} | {:.2} | {counted} |", row.name, a / b);
+        println!("| {name} | {a:.1} | {b:.1} | {:.2} | {counted} |", a / b);
     }
     println!("\nA sheet's record is checked once by Lendaru, and at every line by the tuned engine.");
     println!("Record of the tuned engine: {} bytes.", std::mem::size_of::<tuned::Engine>());

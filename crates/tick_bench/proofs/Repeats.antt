@@ -3,7 +3,6 @@ use Prim.Native.Nat.{ℕ, suc, _+_, _-_, _<_, _≤_}
 use mathlib.Core.Path.{_≡_}
 use mathlib.Core.Bool.{cond}
 use native.Mathlib.Omega.{arith}
-use lib.Bits.{bitOr}
 use borrow.Author.Tests.{eq-eqb}
 use Rattle.model.specs.declared.Engine.{Engine}
 use Rattle.model.specs.declared.Command.{Command}
@@ -11,7 +10,7 @@ use Rattle.model.specs.declared.Outcome.{Outcome}
 use Rattle.model.specs.Execute.{execute}
 use Rattle.change.specs.declared.Change.{Change}
 use Rattle.change.specs.Changes.{applied, timestampsStored, Gives}
-use Rattle.tick_bench.specs.Ticks.{toldBy, seenAfter}
+use Rattle.tick_bench.specs.Ticks.{toldBy, ticks}
 
 module _ (e : Engine) (c : Command) where
   -- what a tick's change makes of the record with its timestamps stored, where one is
@@ -27,14 +26,15 @@ module _ (e : Engine) (c : Command) where
 
   module _ (i n told : ℕ) where
     pub turn-leads : (o : Outcome) → o ≡ execute e c → i < n
-        → seenAfter (o .engine) c (n - (i + 1)) (toldBy told o) ≡ seenAfter e c (n - i) told
-    unfolding seenAfter
+        → ticks c (n - (i + 1)) (record { engine = o .engine; told = toldBy told o })
+        ≡ ticks c (n - i) (record { engine = e; told = told })
+    unfolding ticks
     turn-leads o is more =
         let first : n - i ≡ suc (n - (i + 1)) = omega arith in
         rw (first, is)
 
-    pub none-left : n ≤ i → seenAfter e c (n - i) told ≡ bitOr (e .clock .nanoseconds) told
-    unfolding seenAfter
+    pub none-left : n ≤ i → ticks c (n - i) (record { engine = e; told = told }) ≡ record { engine = e; told = told }
+    unfolding ticks
     none-left over =
         let none : n - i ≡ 0 = omega arith in
         rw none

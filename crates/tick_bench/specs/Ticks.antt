@@ -12,7 +12,9 @@ use Rattle.model.specs.declared.Outcome.{Outcome}
 use Rattle.model.specs.Ranges.{valid}
 use Rattle.model.specs.Checks.{readsFifo}
 use Rattle.model.specs.Execute.{execute}
+use Rattle.model.specs.Run.{engineAfter}
 use Rattle.model.specs.Sheet.{commandOf}
+use Rattle.tick_bench.specs.declared.Run.{Run}
 
 -- an order that moves no FIFO, on a valid record
 pub record Still (e : Engine) (c : Command) : Type 0 where
@@ -42,7 +44,23 @@ tickOf code = commandOf (0 ∷ code ∷ code ∷ code ∷ 0 ∷ 0 ∷ 0 ∷ 0 �
 abbrev pub toldBy : ℕ → Outcome → ℕ
 toldBy told o = bitOr (bitOr (bitOr told (o .answer)) (o .values .w1)) (o .values .w2)
 
--- one command, so many times: the nanoseconds shown after them, with the bits of all that was told
-unfoldable pub seenAfter : Engine → Command → ℕ → ℕ → ℕ
-seenAfter e c zero told = bitOr (e .clock .nanoseconds) told
-seenAfter e c (suc n) told = seenAfter (execute e c .engine) c n (toldBy told (execute e c))
+-- one command, so many times: the record after them, and what was told with what was told before
+unfoldable pub ticks : Command → ℕ → Run → Run
+ticks c zero t = t
+ticks c (suc n) t = ticks c n (record {
+  engine = execute (t .engine) c .engine;
+  told = toldBy (t .told) (execute (t .engine) c);
+})
+
+-- what so many give, on a valid record again
+pub record TicksTo (from : Run) (c : Command) (n : ℕ) (r : Run) : Type 0 where
+  pub is : r ≡ ticks c n from
+  pub keeps : valid (r .engine) ≡ true
+
+-- the orders given, nothing told yet
+abbrev pub startOf : ℕ → ℕ → Run
+startOf cycles edges = record { engine = engineAfter (orders cycles edges); told = 0 }
+
+-- the nanoseconds shown, with the bits of all that was told
+abbrev pub seen : Run → ℕ
+seen t = bitOr (t .engine .clock .nanoseconds) (t .told)

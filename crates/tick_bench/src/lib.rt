@@ -4,7 +4,7 @@ ghost use mathlib.Core.Path.{_≡_};
 ghost use mathlib.Core.Bool.{true};
 ghost use Rattle.model.specs.Ranges.{valid};
 ghost use Rattle.model.specs.Run.{engineAfter};
-ghost use Rattle.tick_bench.specs.Ticks.{Still, Gave, orders, tickOf, seenAfter};
+ghost use Rattle.tick_bench.specs.Ticks.{Still, Gave, orders, tickOf, TicksTo, ticks, startOf, seen};
 use model::Command;
 use model::Engine;
 
@@ -31,20 +31,28 @@ fn ordered(cycles: u64, edges: u64) -> Engine
     give(one, sheet::command_of([3, 2, 0, 5, 300, 6, 7, edges, 1]))
 }
 
-// So many ticks with a code on each input: the nanoseconds shown at the end, with the bits of every answer and code
-// told on the way, so that none is left out. A record that fails its check, which none does, would end it.
-fn ticked(start: Engine, code: u64, n: u64, checked: bool) -> u64
-    requires { ⌜ valid start ≡ true ⌝ }
-    ensures { λ r. ⌜ r ≡ seenAfter start (tickOf code) n 0 ⌝ }
+// The record after ticks, and the bits of every answer and code told on the way, so that none is left out.
+struct Run {
+    engine: Engine,
+    told: u64,
+}
+
+// So many ticks more with a code on each input. A record that fails its check, which none does, would end them.
+fn ticked(from: Run, code: u64, n: u64, checked: bool) -> Run
+    requires { ⌜ valid (from .engine) ≡ true ⌝ }
+    ensures { λ r. ⌜ TicksTo from (tickOf code) n r ⌝ }
 {
     let c = sheet::command_of([0, code, code, code, 0, 0, 0, 0, 0]);
-    let mut e = start;
-    let mut told: u64 = 0;
+    let mut e = from.engine;
+    let mut told = from.told;
     let mut i: u64 = 0;
     while i < n {
         if checked {
             if !validity::is_valid(e) {
-                return told;
+                return Run {
+                    engine: e,
+                    told: told,
+                };
             }
         }
         let m = tick::tick(e, c);
@@ -56,14 +64,31 @@ fn ticked(start: Engine, code: u64, n: u64, checked: bool) -> u64
         told = told | m.answer | values.w1 | values.w2;
         i += 1;
     }
-    let clock = e.clock;
-    clock.nanoseconds | told
+    Run {
+        engine: e,
+        told: told,
+    }
 }
 
-// So many ticks after the orders, the record checked before each where `checked` is 1.
+// After the orders and so many ticks with an edge on each input, n ticks with a code on each, the record checked
+// before each of these where `checked` is 1: the nanoseconds shown at the end with the bits of all that was told.
 #[no_mangle]
-pub extern "C" fn tick_bench_ticks(n: u64, cycles: u64, edges: u64, code: u64, checked: u64) -> u64
-    ensures { λ r. ⌜ r ≡ seenAfter (engineAfter (orders cycles edges)) (tickOf code) n 0 ⌝ }
+pub extern "C" fn tick_bench_ticks(
+    n: u64,
+    cycles: u64,
+    edges: u64,
+    stamps: u64,
+    code: u64,
+    checked: u64,
+) -> u64
+    ensures { λ r. ⌜ r ≡ seen (ticks (tickOf code) n (ticks (tickOf 16) stamps (startOf cycles edges))) ⌝ }
 {
-    ticked(ordered(cycles, edges), code, n, checked == 1)
+    let start = Run {
+        engine: ordered(cycles, edges),
+        told: 0,
+    };
+    let end = ticked(ticked(start, 16, stamps, false), code, n, checked == 1);
+    let last = end.engine;
+    let clock = last.clock;
+    clock.nanoseconds | end.told
 }
