@@ -3,6 +3,7 @@
 // number (specs/Checks.antt). Document 01, "Where each command is checked".
 ghost use mathlib.Core.Path.{_≡_};
 ghost use mathlib.Core.Bool.{true};
+ghost use Rattle.model.specs.Record.{fifo};
 ghost use Rattle.model.specs.Ranges.{valid};
 ghost use Rattle.model.specs.Checks.{readsFifo, writes as writesSpec, passes, answerOf};
 ghost use Rattle.checks.specs.First.{firstOf};
@@ -38,14 +39,24 @@ fn writes(c: Command, selector: u64) -> bool
     both(c.op == 2, c.a == selector)
 }
 
+// How many timestamps a FIFO holds, by number.
+fn count_at(e: Engine, n: u64) -> u64
+    ensures { λ r. ⌜ r ≡ fifo e n .count ⌝ }
+{
+    if n == 1 {
+        return e.fifo1.count;
+    }
+    if n == 2 {
+        return e.fifo2.count;
+    }
+    e.fifo3.count
+}
+
 // 7: a FIFO that is read is not empty.
 fn timestamp_waits(e: Engine, c: Command) -> bool
     ensures { λ r. ⌜ r ≡ passes e c 7 ⌝ }
 {
-    implies(
-        reads_fifo(c),
-        fails(fifo::is_empty(record::fifo_at(e, c.b))),
-    )
+    implies(reads_fifo(c), fails(fifo::is_empty(count_at(e, c.b))))
 }
 
 // 8: a TIME that is written has an NS below a second, and nothing above it.

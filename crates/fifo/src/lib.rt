@@ -3,8 +3,9 @@
 // specs/Fifo.antt. Document 01, "Stamps and generators".
 ghost use mathlib.Core.Path.{_≡_};
 ghost use Prim.Native.Nat.{_+_, _<_, _≤_};
+ghost use lib.Dec.{eqb};
 ghost use Rattle.model.specs.Clock.{shown};
-ghost use Rattle.model.specs.Fifo.{emptyFifo, noTimestamp, isEmpty, entry, timestampOf, captured, popped};
+ghost use Rattle.model.specs.Fifo.{emptyFifo, noTimestamp, entry, timestampOf, captured, popped};
 ghost use Rattle.fifo.specs.Capture.{EighthOf, OffsetOf, Stamping, Capturing, pushed, arrivalOf};
 use model::Clock;
 use model::Fifo;
@@ -38,10 +39,11 @@ pub fn empty_fifo() -> Fifo
     }
 }
 
-pub fn is_empty(f: Fifo) -> bool
-    ensures { λ r. ⌜ r ≡ isEmpty f ⌝ }
+// A FIFO of this count holds nothing. The count alone is handed over, since a FIFO would be copied.
+pub fn is_empty(count: u64) -> bool
+    ensures { λ r. ⌜ r ≡ eqb count 0 ⌝ }
 {
-    f.count == 0
+    count == 0
 }
 
 pub fn oldest(f: Fifo) -> Timestamp

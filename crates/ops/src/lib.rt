@@ -5,7 +5,7 @@ ghost use mathlib.Core.Path.{_≡_};
 ghost use mathlib.Core.Bool.{false};
 ghost use Prim.Native.Nat.{_<_, _^_};
 ghost use Rattle.model.specs.Bounds.{WordsIn};
-ghost use Rattle.model.specs.Fifo.{isEmpty};
+ghost use Rattle.model.specs.Fifo.{isEmpty, entry};
 ghost use Rattle.model.specs.Generator.{idleGenerator};
 ghost use Rattle.model.specs.Record.{withWords, withGenerator, fifo};
 ghost use Rattle.model.specs.Words.{noWords};
@@ -23,6 +23,7 @@ use model::Generator;
 use model::Instant;
 use model::Interrupts;
 use model::Steering;
+use model::Timestamp;
 use model::Words;
 use words::no_words;
 
@@ -120,6 +121,19 @@ fn write(e: Engine, selector: u64) -> Engine
     }
 }
 
+// Op 2, the oldest timestamp of a FIFO. Each is looked at where it stands, so that none is copied.
+fn oldest_at(e: Engine, n: u64) -> Timestamp
+    ensures { λ r. ⌜ r ≡ entry (fifo e n) 0 ⌝ }
+{
+    if n == 1 {
+        return fifo::oldest(e.fifo1);
+    }
+    if n == 2 {
+        return fifo::oldest(e.fifo2);
+    }
+    fifo::oldest(e.fifo3)
+}
+
 // Op 2, what a read returns: the time shown after the write, or the oldest timestamp.
 fn read_words(e: Engine, now: Clock, selector: u64) -> Words
     requires { ⌜ Readable e selector ⌝ }
@@ -128,7 +142,7 @@ fn read_words(e: Engine, now: Clock, selector: u64) -> Words
     if selector == 0 {
         return words::time_words(now.seconds, now.nanoseconds, 0);
     }
-    let t = fifo::oldest(record::fifo_at(e, selector));
+    let t = oldest_at(e, selector);
     words::time_words(t.seconds, t.nanoseconds, t.rising)
 }
 
@@ -224,9 +238,9 @@ pub fn read_status(e: Engine) -> Change
     ensures { λ r. ⌜ r ≡ changeTo 0 (justFirst (statusOf e)) e false ⌝ }
 {
     let word = interrupts::status_word(
-        fifo::is_empty(e.fifo1),
-        fifo::is_empty(e.fifo2),
-        fifo::is_empty(e.fifo3),
+        fifo::is_empty(e.fifo1.count),
+        fifo::is_empty(e.fifo2.count),
+        fifo::is_empty(e.fifo3.count),
     );
     accepted(just_first(word), e)
 }

@@ -1,12 +1,11 @@
-// The engine record: its generators and FIFOs by number, and the record with a part replaced. Every change of the
-// record but a tick's goes through these, so that a new part is a local edit. Each function returns a definition of
-// the model's specs/Record.antt.
+// The engine record: its generators by number, and the record with a part replaced. Every change of the record but a
+// tick's goes through these, so that a new part is a local edit. Each function returns a definition of the model's
+// specs/Record.antt.
 ghost use mathlib.Core.Path.{_≡_};
 ghost use Rattle.model.specs.Record.{withClock, withSteering, withGenerators, withInterrupts, withWords};
-ghost use Rattle.model.specs.Record.{generator, withGenerator, fifo};
+ghost use Rattle.model.specs.Record.{generator, withGenerator};
 use model::Clock;
 use model::Engine;
-use model::Fifo;
 use model::Generator;
 use model::Interrupts;
 use model::Steering;
@@ -64,17 +63,4 @@ pub fn with_generator(mut e: Engine, n: u64, g: Generator) -> Engine
     }
     e.generator2 = g;
     e
-}
-
-// Timestamp FIFO 1, 2 or 3, by number.
-pub fn fifo_at(e: Engine, n: u64) -> Fifo
-    ensures { λ r. ⌜ r ≡ fifo e n ⌝ }
-{
-    if n == 1 {
-        return e.fifo1;
-    }
-    if n == 2 {
-        return e.fifo2;
-    }
-    e.fifo3
 }

@@ -11,7 +11,7 @@ returns c =
       c .implies .ensures,
       c .before .fails .ensures,
       c .before .before .is-empty .ensures,
-      c .before .before .before .fifo-at .ensures,
+      c .before .before .before .count-at .ensures,
       c .before .before .before .before .reads-fifo .ensures,
     )
 

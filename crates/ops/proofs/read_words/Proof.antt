@@ -10,22 +10,18 @@ returns c = simp (c .time-words .ensures, eq-eqb _ _ (c .before .if1 .taken))
 
 time-words-requires-2 : tie.Need-time-words-requires-2
 time-words-requires-2 c κs =
-    let k = c .before .before .before .pre in
-    rw (
-      c .oldest .ensures,
-      c .before .fifo-at .ensures,
-    ) (oldest-rising _ (k .filled (ne-eqb _ _ (c .before .before .if1 .left))) (k .ok))
+    let k = c .before .before .pre in
+    rw (c .oldest-at .ensures) (oldest-rising _ (k .filled (ne-eqb _ _ (c .before .if1 .left))) (k .ok))
 
 returns-2 : tie.Need-returns-2
 returns-2 c =
     simp (
       c .time-words2 .ensures,
-      c .before .oldest .ensures,
-      c .before .before .fifo-at .ensures,
-      ne-eqb _ _ (c .before .before .before .if1 .left),
+      c .before .oldest-at .ensures,
+      ne-eqb _ _ (c .before .before .if1 .left),
     )
 
 pub read-words-spec : {M : Type 1} → statement M
 read-words-spec =
     tie.close
-    (tie.spec (search needs) returns (search needs) (search needs) time-words-requires-2 returns-2)
+    (tie.spec (search needs) returns (search needs) time-words-requires-2 returns-2)
