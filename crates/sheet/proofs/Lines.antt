@@ -1,26 +1,25 @@
 -- A line whose first part is a value is the line with this number read and one part fewer left; with another first
 -- part, or another number of parts than are wanted, it is none.
 use mathlib.Core.Path.{_≡_, refl, sym, ap, _∙_}
-use mathlib.Core.Bool.{true, false, _&&_, cond, and-false}
+use mathlib.Core.Bool.{Bool, true, false, _&&_, cond, and-false}
 use mathlib.Core.List.{List, [], _∷_, _++_, map, append-assoc, append-nil}
 use Prim.Native.Nat.{ℕ, suc, _+_, _-_, _≤_, _<_}
 use native.Mathlib.Numerals.{add-one}
-use native.Mathlib.Nat.{add-suc, suc-add, zero-add, add-sub-cancel-left}
+use native.Mathlib.Nat.{add-suc, suc-add, zero-add}
 use native.Mathlib.Decide.{decLt}
 use native.Mathlib.Omega.{arith}
 use lib.Dec.{eqb}
 use lib.ListN.{length, take, drop, set, length-set}
-use lib.Seq.{take-suc-set, take-all, drop-cons}
-use borrow.Author.Tests.{ne-eqb}
+use lib.Seq.{take-suc-set, take-all}
+use borrow.Author.Tests.{lt-ltb, ltb-true, ne-eqb}
 use Rattle.model.specs.declared.Line.{Line}
 use Rattle.model.specs.declared.Value.{Value}
-use Rattle.model.specs.Text.{comma, numberAfter, valueOf, parts, firstPart}
+use Rattle.model.specs.Text.{comma, numberAfter, noValue, valueOf, parts, firstPart}
 use Rattle.model.specs.Sheet.{allValues, isLine, commandOf, noLine, lineOf}
 use Rattle.model.proofs.Laws.Lines.{value-one-part}
-use Rattle.sheet.specs.Reading.{RunTo, DigitAt}
-use Rattle.sheet.proofs.Parts.{parts-some, one-part, more-parts, first-here, first-on, first-is}
-use Rattle.sheet.proofs.Parts.{parts-last, parts-more, rest-is}
-use Rattle.values.proofs.Digits.{digit-value}
+use Rattle.sheet.specs.declared.Taken.{Taken}
+use Rattle.sheet.specs.Reading.{TakenAt}
+use Rattle.sheet.proofs.Parts.{parts-some, one-part, more-parts, parts-last, parts-more, rest-is}
 use Rattle.values.proofs.Values.{value-test, value-number}
 
 -- the line whose first k numbers are those of ns, and whose other parts are ps
@@ -68,43 +67,44 @@ pub line-start : (s ns : List ℕ) → length ns ≡ 9 → ReadTo s ns 0 0
 unfolding lineWith lineOf isLine
 line-start s ns room = record { few = omega arith; inside = omega arith; room = room; whole = rw zero-add }
 
--- one of the first eight parts, up to its comma
-module _ {s ns : List ℕ} {at k n : ℕ} (to : ReadTo s ns at k) (run : RunTo comma at s n) (l : k < 8) where
-  pub line-cut : length s ≤ at + n → noLine ≡ lineOf s
-  line-cut h =
-      let one = ap length (parts-last comma s at n (run .is) h) in
-      sym (line-count k ns (parts comma (drop at s)) (λ c. omega arith)) ∙ to .whole
+-- what is a value has passed the test
+value-there : {r : Value} (t : Bool) (v : Value) → r ≡ cond t v noValue → r .ok ≡ true → t ≡ true
+value-there true v e h = refl
+value-there false v e h = rw e at h
 
-  module _ {r : Value} (more : at + n < length s) (e : r ≡ valueOf (take (at + n - at) (drop at s))) where
-    here : parts comma (drop at s) ≡ take (at + n - at) (drop at s) ∷ parts comma (drop (at + n + 1) s)
-    here = rw (first-is comma s at n (run .is)) (parts-more comma s at n (run .is) more)
+-- a part that is taken up to its comma
+module _ {s : List ℕ} {at : ℕ} {r : Taken} (taken : TakenAt s at r) where
+  taken-value : r .end < length s → r .value ≡ valueOf (firstPart comma (drop at s))
+  taken-value more = rw (lt-ltb _ _ more) at (taken .value)
 
-    pub line-on : r .ok ≡ true → ReadTo s (set ns k (r .number)) (at + n + 1) (k + 1)
-    line-on h = record {
-      few = omega arith;
-      inside = omega arith;
-      room = rw length-set (to .room);
-      whole = sym (line-value k ns _ _ r e (omega arith) h) ∙ (rw here at (to .whole));
-    }
+  taken-parts : r .end < length s
+      → parts comma (drop at s) ≡ firstPart comma (drop at s) ∷ parts comma (drop (r .end + 1) s)
+  taken-parts more = rw (taken .end) (parts-more comma s at _ refl (omega (arith, taken .end)))
 
-    pub line-stop : r .ok ≡ false → noLine ≡ lineOf s
-    line-stop h = sym (line-no-value k ns _ _ r e h) ∙ (rw here at (to .whole))
+  pub taken-inside : r .value .ok ≡ true → r .end < length s
+  taken-inside h = ltb-true _ _ (value-there _ _ (taken .value) h)
 
--- one of them that is a digit
-module _ {s ns : List ℕ} {at k digit : ℕ} (to : ReadTo s ns at k) (one : DigitAt s at digit) (small : digit < 10) where
-  digit-run : RunTo comma at s 1
-  digit-run =
-      let on = first-on comma s at (omega arith) (λ e. omega arith) in
-      let here = first-here comma s (at + 1) (one .within) (one .behind) in
-      record { is = omega arith; within = omega arith }
+  -- one of the first eight, which is a value or none
+  module _ {ns : List ℕ} {k : ℕ} (to : ReadTo s ns at k) (l : k < 8) where
+    pub line-on : r .value .ok ≡ true → ReadTo s (set ns k (r .value .number)) (r .end + 1) (k + 1)
+    line-on h =
+        let more = taken-inside h in
+        let read = line-value k ns _ _ (r .value) (taken-value more) (omega arith) h in
+        record {
+          few = omega arith;
+          inside = omega arith;
+          room = rw length-set (to .room);
+          whole = sym read ∙ (rw (taken-parts more) at (to .whole));
+        }
 
-  digit-read : record { ok = true; number = digit } ≡ valueOf (take (at + 1 - at) (drop at s))
-  digit-read = rw (add-sub-cancel-left, drop-cons s at 0 (omega arith), one .byte) (digit-value digit small)
-
-  pub line-digit : k < 8 → ReadTo s (set ns k digit) (at + 2) (k + 1)
-  line-digit l =
-      let next : at + 2 ≡ at + 1 + 1 = omega arith in
-      rw next (line-on to digit-run l (one .within) digit-read refl)
+    pub line-stop : r .value .ok ≡ false → noLine ≡ lineOf s
+    line-stop h =
+        sym (elim (decLt (r .end) (length s)) [
+          | yes more ↦ rw (taken-parts more) (line-no-value k ns _ _ (r .value) (taken-value more) h)
+          | no none ↦
+              let one = ap length (parts-last comma s at _ refl (omega (arith, taken .end))) in
+              line-count k ns (parts comma (drop at s)) (λ c. omega arith)
+        ]) ∙ to .whole
 
 -- the ninth part, up to the end: a value has no comma, and with one there are too many parts
 module _ {s ns : List ℕ} {at k : ℕ} {r : Value} (to : ReadTo s ns at k) (ninth : 8 ≤ k)

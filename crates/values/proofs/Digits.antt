@@ -3,7 +3,7 @@
 use mathlib.Core.Path.{_≡_, refl, sym, _∙_}
 use mathlib.Core.List.{List, [], _∷_}
 use mathlib.Core.Bool.{Bool, true, false, _&&_, and-true, and-false, not, cond}
-use Prim.Native.Nat.{ℕ, suc, _+_, _*_, _-_, _^_, _<_}
+use Prim.Native.Nat.{ℕ, suc, _+_, _*_, _-_, _/_, _%_, _^_, _≤_, _<_}
 use native.Mathlib.Numerals.{add-one}
 use native.Mathlib.Nat.{zero-add, add-sub-cancel-left}
 use native.Mathlib.Omega.{arith}
@@ -69,4 +69,20 @@ digit-value digit h =
       add-sub-cancel-left,
       zero-add,
       lt-ltb digit (2 ^ 64) (omega arith),
+    )
+
+-- two digits are a value where the first is not 0
+pub two-digits-value : (n : ℕ) → 10 ≤ n → n < 100
+    → record { ok = true; number = n } ≡ valueOf ((48 + n / 10) ∷ (48 + n % 10) ∷ [])
+unfolding isValue valueOf
+two-digits-value n some small =
+    let whole : numberAfter 0 ((48 + n / 10) ∷ (48 + n % 10) ∷ []) ≡ n = omega arith in
+    rw (
+      ne-eqb (48 + n / 10) 48 (λ e. omega arith),
+      le-leb 48 (48 + n / 10) (omega arith),
+      le-leb (48 + n / 10) 57 (omega arith),
+      le-leb 48 (48 + n % 10) (omega arith),
+      le-leb (48 + n % 10) 57 (omega arith),
+      whole,
+      lt-ltb n (2 ^ 64) (omega arith),
     )

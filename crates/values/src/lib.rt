@@ -32,16 +32,18 @@ fn next_digit(v: u64, b: u8) -> Value
         return no_value();
     }
     let digit = wide(b - 48);
+    // 2^64 - 1 is 18446744073709551615
     if 1844674407370955161 < v {
         return no_value();
     }
-    let tens = v * 10;
-    if 18446744073709551615 - tens < digit {
-        return no_value();
+    if v == 1844674407370955161 {
+        if 5 < digit {
+            return no_value();
+        }
     }
     Value {
         ok: true,
-        number: tens + digit,
+        number: v * 10 + digit,
     }
 }
 

@@ -1,11 +1,9 @@
--- Each turn reads the first part that is left, so the line with the numbers read so far always is the whole line.
+-- Each turn takes the first part that is left, so the line with the numbers read so far always is the whole line.
 use Prim.Native.Nat.{_-_}
 use mathlib.Core.Path.{refl, _∙_}
-use mathlib.Core.Logic.{⊎-elim}
 use borrow.Author.Needs.{needs}
 use borrow.Author.Tests.{not-true, not-false}
-use Rattle.sheet.proofs.Lines.{ReadTo, line-start, line-cut, line-on, line-stop, line-digit, line-last}
-use Rattle.sheet.proofs.Lines.{line-no-last}
+use Rattle.sheet.proofs.Lines.{ReadTo, line-start, taken-inside, line-on, line-stop, line-last, line-no-last}
 use Rattle.sheet.proofs.read_line.Statement.{statement}
 use Rattle.sheet.proofs.read_line.Tie as tie
 
@@ -20,49 +18,41 @@ loop-holds c = line-start _ _ refl
 
 returns : tie.Need-returns Inv-loop μ-loop
 returns c =
-    let run = c .before .before in
-    let turn = run .before .before .before in
-    c .no-line .ensures
-    ∙ line-cut (turn .before .loop .inv) (run .run-length .ensures) (turn .loop-test .taken) (c .before .if2 .taken)
+    let took = c .before .before .before .before in
+    let turn = took .before in
+    let stop = line-stop (took .take-value .ensures) (turn .before .loop .inv) (turn .loop-test .taken) in
+    c .no-line .ensures ∙ stop (not-true _ (c .before .if1 .taken))
+
+add-at : tie.Need-add-at Inv-loop μ-loop
+add-at c =
+    let taken = c .before .before .before .before .take-value .ensures in
+    let inside = taken-inside taken (not-false _ (c .before .if1 .left)) in
+    search needs
+
+loop-again : tie.Need-loop-again Inv-loop μ-loop
+loop-again c =
+    let took = c .before .before .before .before in
+    let turn = took .before in
+    let on = line-on (took .take-value .ensures) (turn .before .loop .inv) (turn .loop-test .taken) in
+    on (not-false _ (c .before .if1 .left))
 
 returns-2 : tie.Need-returns-2 Inv-loop μ-loop
 returns-2 c =
     let read = c .before .before .before in
-    let run = read .before .before .before in
-    let turn = run .before .before .before in
-    let stop = line-stop (turn .before .loop .inv) (run .run-length .ensures) (turn .loop-test .taken) in
-    c .no-line2 .ensures
-    ∙ stop (read .before .before .if2 .left) (read .read-value .ensures) (not-true _ (c .before .if3 .taken))
-
-loop-again : tie.Need-loop-again Inv-loop μ-loop
-loop-again c =
-    let turn = c .before .before in
-    let inv = turn .before .loop .inv in
-    let some = turn .loop-test .taken in
-    ⊎-elim
-    (λ w. rw (w .1, w .2) (line-digit inv (c .before .digit-at .ensures (w .0 .taken)) (w .0 .taken) some))
-    (λ w. rw (w .7, w .8)
-    (line-on inv (w .1 .ensures) some (w .2 .left) (w .4 .ensures) (not-false _ (w .6 .left))))
-    (c .if1 .came)
+    let end = read .before .before in
+    let none = line-no-last (end .before .loop .inv) (end .loop-test .left) (read .read-value .ensures) in
+    c .no-line2 .ensures ∙ none (not-true _ (c .before .if2 .taken))
 
 returns-3 : tie.Need-returns-3 Inv-loop μ-loop
 returns-3 c =
     let read = c .before .before .before in
     let end = read .before .before in
-    let none = line-no-last (end .before .loop .inv) (end .loop-test .left) (read .read-value2 .ensures) in
-    c .no-line3 .ensures ∙ none (not-true _ (c .before .if4 .taken))
-
-returns-4 : tie.Need-returns-4 Inv-loop μ-loop
-returns-4 c =
-    let read = c .before .before .before in
-    let end = read .before .before in
-    let last = line-last (end .before .loop .inv) (end .loop-test .left) (read .read-value2 .ensures) in
-    rw (c .command-of .ensures) (last (not-false _ (c .before .if4 .left)))
+    let last = line-last (end .before .loop .inv) (end .loop-test .left) (read .read-value .ensures) in
+    rw (c .command-of .ensures) (last (not-false _ (c .before .if2 .left)))
 
 pub read-line-spec : {M : Type 1} → statement M
 read-line-spec =
     tie.close
-    (tie.spec Inv-loop μ-loop loop-holds (search needs) (search needs) (search needs) (search needs) (search needs)
-    (search needs) (search needs) returns (search needs) (search needs) (search needs) (search needs) (search needs)
-    returns-2 (search needs) (search needs) (search needs) (search needs) (search needs) loop-again (search needs)
-    (search needs) (search needs) (search needs) (search needs) returns-3 (search needs) (search needs) returns-4)
+    (tie.spec Inv-loop μ-loop loop-holds (search needs) (search needs) returns (search needs) (search needs) add-at
+    (search needs) (search needs) loop-again (search needs) (search needs) (search needs) (search needs)
+    (search needs) returns-2 (search needs) (search needs) returns-3)
