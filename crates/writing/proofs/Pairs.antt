@@ -2,7 +2,7 @@
 -- number from 10 to 99 is these two digits alone.
 use Prim.Native.Nat.{ℕ, _+_, _/_, _%_, _^_, _≤_, _<_}
 use mathlib.Core.Path.{_≡_, ap, _∙_}
-use mathlib.Core.List.{List, _++_, append-assoc}
+use mathlib.Core.List.{List, _∷_, _++_, append-assoc}
 use native.Mathlib.Omega.{arith}
 use lib.ListN.{length, length-append}
 use Rattle.model.specs.Text.{decimal}
@@ -38,3 +38,9 @@ module _ (n : ℕ) (more : 100 ≤ n) (word : n < 2 ^ 64) where
         → Written before after at (decimal n) end
     written-hundreds first second room =
         rw (decimal-hundreds, is) (written-then first second (omega (arith, length-hundreds)))
+
+-- the hundredth of a number of five digits has three
+pub hundredth-five : (n : ℕ) → 10000 ≤ n → n < 100000 → decimal (n / 100) ≡ (48 + n / 10000) ∷ pair (n / 100 % 100)
+hundredth-five n five below =
+    let first : n / 100 / 100 ≡ n / 10000 = omega arith in
+    decimal-hundreds (n / 100) (omega arith) (omega arith) ∙ rw (first, decimal-digit (n / 10000) (omega arith))

@@ -51,7 +51,7 @@ fn put_pair(out: &mut [u8], at: usize, n: u64) -> usize
     at + 2
 }
 
-// A number; most have one digit, and line numbers up to four.
+// A number; most have one digit, line numbers up to four, and words up to five.
 pub fn put_number(out: &mut [u8], at: usize, n: u64) -> usize
     requires { ⌜ at + length (decimal n) ≤ length (now out) ⌝ }
     ensures { λ r. ⌜ Written (now (out .entry)) (now (out .exit)) at (decimal n) r ⌝ }
@@ -69,6 +69,11 @@ pub fn put_number(out: &mut [u8], at: usize, n: u64) -> usize
     if n < 10000 {
         let next = put_pair(out, at, n / 100);
         return put_pair(out, next, n % 100);
+    }
+    if n < 100000 {
+        let next = put_byte(out, at, 48 + ((n / 10000) as u8));
+        let after = put_pair(out, next, n / 100 % 100);
+        return put_pair(out, after, n % 100);
     }
     put_decimal(out, at, n)
 }
