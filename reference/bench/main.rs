@@ -2,8 +2,9 @@
 //! and instructions where valgrind is present. Each row is the best of several runs; a ratio below 1 says that Lendaru
 //! is the faster.
 //!
-//!     bench            prints the tables
-//!     bench ROW N WHO  does N units of one row, for valgrind to count
+//!     bench            prints the table
+//!     bench FILE       prints one row of it, for the sheet in this file
+//!     bench ROW N WHO  does N units of one row or file, for valgrind to count
 use reference::engine::Command;
 use reference::tuned;
 use std::hint::black_box;
@@ -89,36 +90,61 @@ fn sheet_of(n: u64, busy: bool) -> Vec<u8> {
     s
 }
 
-/// What a row does: ticks on a load, with check 4 before each or without, or whole sheets of so many lines.
+/// What a row does: ticks on a load, with check 4 before each or without, or a whole sheet again and again.
 enum Work {
-    Ticks { load: Load, checked: bool },
-    Sheets { lines: u64, busy: bool },
+    Ticks(Load, bool),
+    Sheet(Vec<u8>),
 }
-use Work::{Sheets, Ticks};
+use Work::{Sheet, Ticks};
 
-const ROWS: [(&str, Work); 11] = [
-    ("tick, idle", Ticks { load: IDLE, checked: false }),
-    ("tick, idle, check 4", Ticks { load: IDLE, checked: true }),
-    ("tick, busy", Ticks { load: BUSY, checked: false }),
-    ("tick, busy, check 4", Ticks { load: BUSY, checked: true }),
-    ("tick, FIFOs partly filled", Ticks { load: PARTLY, checked: false }),
-    ("tick, FIFOs partly filled, check 4", Ticks { load: PARTLY, checked: true }),
-    ("line of a sheet of 10 ticks", Sheets { lines: 10, busy: false }),
-    ("line of a sheet of 100 ticks", Sheets { lines: 100, busy: false }),
-    ("line of a sheet of 1,000 ticks", Sheets { lines: 1000, busy: false }),
-    ("line of a sheet of 3,600 ticks", Sheets { lines: 3600, busy: false }),
-    ("line of a busy sheet of 3,500", Sheets { lines: 3500, busy: true }),
-];
+fn rows() -> [(&'static str, Work); 11] {
+    [
+        ("tick, idle", Ticks(IDLE, false)),
+        ("tick, idle, check 4", Ticks(IDLE, true)),
+        ("tick, busy", Ticks(BUSY, false)),
+        ("tick, busy, check 4", Ticks(BUSY, true)),
+        ("tick, FIFOs partly filled", Ticks(PARTLY, false)),
+        ("tick, FIFOs partly filled, check 4", Ticks(PARTLY, true)),
+        ("line of a sheet of 10 ticks", Sheet(sheet_of(10, false))),
+        ("line of a sheet of 100 ticks", Sheet(sheet_of(100, false))),
+        ("line of a sheet of 1,000 ticks", Sheet(sheet_of(1000, false))),
+        ("line of a sheet of 3,600 ticks", Sheet(sheet_of(3600, false))),
+        ("line of a busy sheet of 3,500", Sheet(sheet_of(3500, true))),
+    ]
+}
 
-/// Does n ticks, or n lines in whole sheets, by Lendaru or by the tuned engine; returns how many units were done.
-fn work(work: &Work, n: u64, ours: bool) -> u64 {
-    match *work {
-        Ticks { load, checked } => ticks(n, black_box(load), checked, ours),
-        Sheets { lines, busy } => sheets(n, lines, busy, ours),
+impl Work {
+    /// A row by its index, or a sheet by the name of its file.
+    fn named(row: &str) -> Work {
+        match row.parse::<usize>() {
+            Ok(index) => rows().into_iter().nth(index).expect("a row").1,
+            Err(_) => Sheet(std::fs::read(row).expect("a file")),
+        }
+    }
+
+    /// How many units come at once: one tick, or the lines of a sheet.
+    fn whole(&self) -> u64 {
+        match self {
+            Ticks(..) => 1,
+            Sheet(sheet) => sheet.iter().filter(|&&b| b == b'\n').count().max(2) as u64 - 1,
+        }
+    }
+
+    /// How many units are done where n are wanted.
+    fn units(&self, n: u64) -> u64 {
+        n.div_ceil(self.whole()) * self.whole()
+    }
+
+    /// Does them, by Lendaru or by the tuned engine.
+    fn run(&self, n: u64, ours: bool) {
+        match self {
+            Ticks(load, checked) => ticks(n, black_box(*load), *checked, ours),
+            Sheet(sheet) => sheets(n.div_ceil(self.whole()), sheet, ours),
+        }
     }
 }
 
-fn ticks(n: u64, load: Load, checked: bool, ours: bool) -> u64 {
+fn ticks(n: u64, load: Load, checked: bool, ours: bool) {
     let Load { cycles, edges, stamps, code } = load;
     black_box(if ours {
         // SAFETY: it takes numbers.
@@ -126,74 +152,78 @@ fn ticks(n: u64, load: Load, checked: bool, ours: bool) -> u64 {
     } else {
         tuned_ticks(n, load, checked)
     });
-    n
 }
 
-fn sheets(n: u64, lines: u64, busy: bool, ours: bool) -> u64 {
-    let sheet = sheet_of(lines, busy);
+fn sheets(times: u64, sheet: &[u8], ours: bool) {
     // SAFETY: it takes nothing.
     let mut out = vec![0; unsafe { lendaru_results_room() }];
     let (mut commands, mut text) = (Vec::with_capacity(3640), Vec::with_capacity(out.len()));
-    let sheets = n.div_ceil(lines);
-    for _ in 0..sheets {
+    for _ in 0..times {
         if ours {
             // SAFETY: both are slices of Rust, and they do not overlap.
             black_box(unsafe { lendaru_run_sheet(sheet.as_ptr(), sheet.len(), out.as_mut_ptr(), out.len()) });
         } else {
-            tuned::results(black_box(&sheet), &mut commands, &mut text);
+            tuned::results(black_box(sheet), &mut commands, &mut text);
             black_box(&text);
         }
     }
-    sheets * lines
 }
 
 /// Nanoseconds of a unit, Lendaru's and the tuned engine's: the best of many short runs by turns, so that a change of
 /// the machine's clock meets both.
 fn nanoseconds(row: &Work) -> [f64; 2] {
-    let n = if matches!(row, Ticks { .. }) { 30_000 } else { 36_000 };
+    let units = row.units(30_000) as f64;
     let mut best = [f64::INFINITY; 2];
     for _ in 0..60 {
         for (who, best) in best.iter_mut().enumerate() {
             let start = Instant::now();
-            let done = work(row, n, who == 0);
-            *best = best.min(start.elapsed().as_nanos() as f64 / done as f64);
+            row.run(30_000, who == 0);
+            *best = best.min(start.elapsed().as_nanos() as f64 / units);
         }
     }
     best
 }
 
 /// Instructions of a unit: the difference of two runs under valgrind, so that start-up does not count.
-fn instructions(index: usize, ours: bool) -> Option<f64> {
+fn instructions(row: &str, ours: bool) -> Option<f64> {
     let me = std::env::current_exe().ok()?;
     let count = |n: u64| -> Option<f64> {
         let said = Process::new("valgrind")
             .args(["--tool=callgrind", "--callgrind-out-file=/dev/null"])
             .arg(&me)
-            .args([index.to_string(), n.to_string(), u8::from(ours).to_string()])
+            .args([row, &n.to_string(), if ours { "1" } else { "0" }])
             .output()
             .ok()?;
         let text = String::from_utf8_lossy(&said.stderr).into_owned();
         let line = text.lines().find(|l| l.contains("Collected"))?.to_string();
         line.split(':').nth(1)?.trim().parse().ok()
     };
-    Some((count(36_000)? - count(18_000)?) / 18_000.0)
+    let work = Work::named(row);
+    let units = work.units(36_000) - work.units(18_000);
+    Some((count(36_000)? - count(18_000)?) / units as f64)
+}
+
+fn print_row(name: &str, row: &str) {
+    let [a, b] = nanoseconds(&Work::named(row));
+    let counted = match (instructions(row, true), instructions(row, false)) {
+        (Some(x), Some(y)) => format!("{x:.0} | {y:.0} | {:.2}", x / y),
+        _ => "- | - | -".to_string(),
+    };
+    println!("| {name} | {a:.1} | {b:.1} | {:.2} | {counted} |", a / b);
 }
 
 fn main() {
-    let args: Vec<u64> = std::env::args().skip(1).map(|a| a.parse().expect("a number")).collect();
-    if let [row, n, ours] = args[..] {
-        work(&ROWS[row as usize].1, n, ours == 1);
-        return;
+    let args: Vec<String> = std::env::args().skip(1).collect();
+    if let [row, n, ours] = &args[..] {
+        return Work::named(row).run(n.parse().expect("a number"), ours == "1");
     }
     println!("| Row | ns | tuned Rust, ns | ratio | instructions | tuned Rust | ratio |");
     println!("|---|---|---|---|---|---|---|");
-    for (i, (name, row)) in ROWS.iter().enumerate() {
-        let [a, b] = nanoseconds(row);
-        let counted = match (instructions(i, true), instructions(i, false)) {
-            (Some(x), Some(y)) => format!("{x:.0} | {y:.0} | {:.2}", x / y),
-            _ => "- | - | -".to_string(),
-        };
-        println!("| {name} | {a:.1} | {b:.1} | {:.2} | {counted} |", a / b);
+    if let [file] = &args[..] {
+        return print_row(file, file);
+    }
+    for (i, (name, _)) in rows().iter().enumerate() {
+        print_row(name, &i.to_string());
     }
     println!("\nA sheet's record is checked once by Lendaru, and at every line by the tuned engine.");
     println!("Record of the tuned engine: {} bytes.", std::mem::size_of::<tuned::Engine>());
