@@ -22,7 +22,7 @@ use Rattle.model.proofs.Laws.Valid.{power-on-valid}
 use Rattle.engine.specs.Stepped.{Stepped}
 use Rattle.sheet.specs.declared.Next.{Next}
 use Rattle.sheet.specs.Reading.{ReadAt}
-use Rattle.sheet.proofs.Parts.{parts-some, parts-more}
+use Rattle.values.proofs.Parts.{parts-some, parts-more}
 use Rattle.sheet.proofs.Body.{LineTo, read-whole, read-end, line-passed, line-refused}
 use Rattle.writing.specs.Written.{Written}
 use Rattle.writing.proofs.Puts.{Rest, rest-whole, rest-room, rest-less, rest-none}

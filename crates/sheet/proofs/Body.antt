@@ -13,7 +13,7 @@ use Rattle.model.specs.Text.{lineEnd, parts, firstPart}
 use Rattle.model.specs.Sheet.{isLine, noLine, lineOf, refusedAt, bodyVerdict}
 use Rattle.sheet.specs.declared.Next.{Next}
 use Rattle.sheet.specs.Reading.{ReadAt}
-use Rattle.sheet.proofs.Parts.{parts-some, parts-last, parts-more}
+use Rattle.values.proofs.Parts.{parts-some, parts-last, parts-more}
 use Rattle.sheet.proofs.LineParts.{line-test, part-end}
 
 line-first : (k : ℕ) (l : List ℕ) (ps : List (List ℕ)) → 0 < length ps

@@ -1,6 +1,4 @@
 -- Why reading part by part and line by line gives what the definitions say of the whole.
-pub mod Parts
-pub mod Taking
 pub mod Lines
 pub mod FirstLine
 pub mod LineParts

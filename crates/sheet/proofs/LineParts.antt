@@ -16,7 +16,7 @@ use Rattle.model.specs.Sheet.{isLine, commandIn, noLine, lineOf}
 use Rattle.model.proofs.Laws.Lines.{Lacks, line-lacks-end, command-of-line}
 use Rattle.model.proofs.Laws.Sheets.{line-length}
 use Rattle.sheet.specs.Reading.{linePart}
-use Rattle.sheet.proofs.Parts.{first-into, first-take, rest-is}
+use Rattle.values.proofs.Parts.{first-into, first-take, rest-is}
 
 -- the first bytes of a text lack what the text lacks
 lacks-take : (sep n : ℕ) (bs : List ℕ) → Lacks sep bs → Lacks sep (take n bs)

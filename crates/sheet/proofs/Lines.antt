@@ -17,9 +17,9 @@ use Rattle.model.specs.declared.Value.{Value}
 use Rattle.model.specs.Text.{comma, numberAfter, noValue, valueOf, parts, firstPart}
 use Rattle.model.specs.Sheet.{allValues, isLine, commandOf, noLine, lineOf}
 use Rattle.model.proofs.Laws.Lines.{value-one-part}
-use Rattle.sheet.specs.declared.Taken.{Taken}
-use Rattle.sheet.specs.Reading.{TakenAt}
-use Rattle.sheet.proofs.Parts.{parts-some, one-part, more-parts, parts-last, parts-more, rest-is}
+use Rattle.values.specs.declared.Taken.{Taken}
+use Rattle.values.specs.Taking.{TakenAt}
+use Rattle.values.proofs.Parts.{parts-some, one-part, more-parts, parts-last, parts-more, rest-is}
 use Rattle.values.proofs.Values.{value-test, value-number}
 
 -- the line whose first k numbers are those of ns, and whose other parts are ps

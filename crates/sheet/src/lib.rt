@@ -7,14 +7,14 @@ ghost use lib.ListN.{length, drop};
 ghost use Rattle.model.specs.Text.{lineEnd, parts};
 ghost use Rattle.model.specs.Sheet.{startsWith, commandOf, noLine, lineOf, refusedAt, bodyVerdict};
 ghost use Rattle.model.specs.Sheet.{sheetVerdict};
-ghost use Rattle.sheet.specs.Reading.{tickLine, pairAt, fourAt, eightAt, RunTo, DigitAt, TwoAt};
-ghost use Rattle.sheet.specs.Reading.{TakenAt, linePart, ReadAt};
+ghost use Rattle.sheet.specs.Reading.{tickLine, pairAt, fourAt, eightAt, linePart, ReadAt};
 use bits::join;
 use model::Command;
 use model::Line;
-use model::Value;
 use model::Verdict;
 use values::read_value;
+use values::run_length;
+use values::take_value;
 use values::wide;
 
 // The first line of a command sheet, its line end included.
@@ -22,65 +22,6 @@ const FIRST_LINE: [u8; 19] = *b"op,a,b,c,d,e,f,g,h\n";
 
 // "0,0,0,0," as a number, the first byte lowest.
 const FOUR_ZEROS: u64 = 0x2C30_2C30_2C30_2C30;
-
-// How many bytes stand before the next separator.
-fn run_length(s: &[u8], from: usize, separator: u8) -> usize
-    requires { ⌜ from ≤ length (now s) ⌝ }
-    ensures { λ r. ⌜ RunTo separator from (now (s .entry)) r ⌝ }
-{
-    let mut i = from;
-    while i < s.len() {
-        if s[i] == separator {
-            return i - from;
-        }
-        i += 1;
-    }
-    i - from
-}
-
-// The digit that stands alone before a comma at an index, as most values do; 10 or more where there is none.
-fn digit_at(s: &[u8], at: usize) -> u64
-    requires { ⌜ at ≤ length (now s) ⌝ }
-    ensures { λ r. ⌜ (r < 10 → DigitAt (now (s .entry)) at r) ⌝ }
-{
-    if at + 1 < s.len() {
-        if s[at + 1] == 44 {
-            let b = s[at];
-            if 48 <= b {
-                return wide(b - 48);
-            }
-        }
-    }
-    10
-}
-
-// The two digits that stand before a comma at an index, with no 0 in front; 100 where there are none.
-fn two_at(s: &[u8], at: usize) -> u64
-    requires { ⌜ at ≤ length (now s) ⌝ }
-    ensures { λ r. ⌜ (r < 100 → TwoAt (now (s .entry)) at r) ⌝ }
-{
-    if s.len() - at < 3 {
-        return 100;
-    }
-    if s[at + 2] != 44 {
-        return 100;
-    }
-    let tens = s[at];
-    let units = s[at + 1];
-    if tens < 49 {
-        return 100;
-    }
-    if 57 < tens {
-        return 100;
-    }
-    if units < 48 {
-        return 100;
-    }
-    if 57 < units {
-        return 100;
-    }
-    wide(tens - 48) * 10 + wide(units - 48)
-}
 
 // The value line that begins at an index: the caller's bytes up to the next line end, which is looked for behind 17
 // bytes, since no value line has fewer. A shorter line is handed on with a line end in it, and is none either way.
@@ -182,45 +123,6 @@ pub fn is_tick_at(s: &[u8], at: usize) -> bool
         return false;
     }
     s[at + 17] == 10
-}
-
-// A value up to the next comma, and where that stands; without one there is no value, and the text ends there.
-struct Taken {
-    value: Value,
-    end: usize,
-}
-
-fn value_to(ok: bool, number: u64, end: usize) -> Taken
-    ensures { λ r. ⌜ r ≡ record { value = record { ok = ok; number = number }; end = end } ⌝ }
-{
-    Taken {
-        value: Value {
-            ok: ok,
-            number: number,
-        },
-        end: end,
-    }
-}
-
-fn take_value(s: &[u8], at: usize) -> Taken
-    requires { ⌜ at ≤ length (now s) ⌝ }
-    ensures { λ r. ⌜ TakenAt (now (s .entry)) at r ⌝ }
-{
-    let digit = digit_at(s, at);
-    if digit < 10 {
-        return value_to(true, digit, at + 1);
-    }
-    let two = two_at(s, at);
-    if two < 100 {
-        return value_to(true, two, at + 2);
-    }
-    let n = run_length(s, at, 44);
-    let end = at + n;
-    if s.len() <= end {
-        return value_to(false, 0, end);
-    }
-    let value = read_value(&s[at..end]);
-    value_to(value.ok, value.number, end)
 }
 
 // One value line, without its line end: eight values up to a comma each, and the ninth up to the end.

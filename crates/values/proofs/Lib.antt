@@ -1,3 +1,5 @@
--- Why reading a value digit by digit gives what the definitions say of the whole.
+-- Why reading a value digit by digit, and up to its comma, gives what the definitions say of the whole.
 pub mod Digits
 pub mod Values
+pub mod Parts
+pub mod Taking

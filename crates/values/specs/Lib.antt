@@ -1,2 +1,3 @@
--- One digit more.
+-- One digit more, and the value at an index.
 pub mod Digits
+pub mod Taking

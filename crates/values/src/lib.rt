@@ -1,8 +1,11 @@
-// One value of a command sheet: decimal digits without leading zeros, below 2^64. Each function returns a definition
-// of the model's specs/Text.antt. Document 01, "Command sheet".
+// One value of a command sheet: decimal digits without leading zeros, below 2^64, by itself or at an index of a line, up
+// to its comma. Each function returns a definition of the model's specs/Text.antt. Document 01, "Command sheet".
 ghost use mathlib.Core.Path.{_≡_};
+ghost use Prim.Native.Nat.{_<_, _≤_};
+ghost use lib.ListN.{length};
 ghost use Rattle.model.specs.Text.{noValue, leadsWell, valueOf};
 ghost use Rattle.values.specs.Digits.{digitAfter};
+ghost use Rattle.values.specs.Taking.{RunTo, DigitAt, TwoAt, TakenAt};
 use model::Value;
 
 fn no_value() -> Value
@@ -85,4 +88,102 @@ pub fn read_value(s: &[u8]) -> Value
         };
     }
     no_value()
+}
+
+// How many bytes stand before the next separator.
+pub fn run_length(s: &[u8], from: usize, separator: u8) -> usize
+    requires { ⌜ from ≤ length (now s) ⌝ }
+    ensures { λ r. ⌜ RunTo separator from (now (s .entry)) r ⌝ }
+{
+    let mut i = from;
+    while i < s.len() {
+        if s[i] == separator {
+            return i - from;
+        }
+        i += 1;
+    }
+    i - from
+}
+
+// The digit that stands alone before a comma at an index, as most values do; 10 or more where there is none.
+fn digit_at(s: &[u8], at: usize) -> u64
+    requires { ⌜ at ≤ length (now s) ⌝ }
+    ensures { λ r. ⌜ (r < 10 → DigitAt (now (s .entry)) at r) ⌝ }
+{
+    if at + 1 < s.len() {
+        if s[at + 1] == 44 {
+            let b = s[at];
+            if 48 <= b {
+                return wide(b - 48);
+            }
+        }
+    }
+    10
+}
+
+// The two digits that stand before a comma at an index, with no 0 in front; 100 where there are none.
+fn two_at(s: &[u8], at: usize) -> u64
+    requires { ⌜ at ≤ length (now s) ⌝ }
+    ensures { λ r. ⌜ (r < 100 → TwoAt (now (s .entry)) at r) ⌝ }
+{
+    if s.len() - at < 3 {
+        return 100;
+    }
+    if s[at + 2] != 44 {
+        return 100;
+    }
+    let tens = s[at];
+    let units = s[at + 1];
+    if tens < 49 {
+        return 100;
+    }
+    if 57 < tens {
+        return 100;
+    }
+    if units < 48 {
+        return 100;
+    }
+    if 57 < units {
+        return 100;
+    }
+    wide(tens - 48) * 10 + wide(units - 48)
+}
+
+// A value up to the next comma, and where that stands; without one there is no value, and the text ends there.
+pub struct Taken {
+    pub value: Value,
+    pub end: usize,
+}
+
+fn value_to(ok: bool, number: u64, end: usize) -> Taken
+    ensures { λ r. ⌜ r ≡ record { value = record { ok = ok; number = number }; end = end } ⌝ }
+{
+    Taken {
+        value: Value {
+            ok: ok,
+            number: number,
+        },
+        end: end,
+    }
+}
+
+pub fn take_value(s: &[u8], at: usize) -> Taken
+    requires { ⌜ at ≤ length (now s) ⌝ }
+    ensures { λ r. ⌜ TakenAt (now (s .entry)) at r ⌝ }
+{
+    let digit = digit_at(s, at);
+    if digit < 10 {
+        return value_to(true, digit, at + 1);
+    }
+    let two = two_at(s, at);
+    if two < 100 {
+        return value_to(true, two, at + 2);
+    }
+    let n = run_length(s, at, 44);
+    let end = at + n;
+    if s.len() <= end {
+        return value_to(false, 0, end);
+    }
+    let value = read_value(&s[at..end]);
+    value_to(value.ok, value.number, end)
 }

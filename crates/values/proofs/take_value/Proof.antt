@@ -1,9 +1,9 @@
 -- One digit or two before a comma are the value there; otherwise the run up to the comma is read as a value, and where
 -- no comma follows there is none.
 use borrow.Author.Needs.{needs}
-use Rattle.sheet.proofs.Taking.{taken-digit, taken-two, taken-cut, taken-run}
-use Rattle.sheet.proofs.take_value.Statement.{statement}
-use Rattle.sheet.proofs.take_value.Tie as tie
+use Rattle.values.proofs.Taking.{taken-digit, taken-two, taken-cut, taken-run}
+use Rattle.values.proofs.take_value.Statement.{statement}
+use Rattle.values.proofs.take_value.Tie as tie
 
 returns : tie.Need-returns
 returns c =

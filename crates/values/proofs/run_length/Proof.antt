@@ -4,9 +4,9 @@ use mathlib.Core.Path.{_≡_}
 use lib.ListN.{length, drop}
 use borrow.Author.Needs.{needs}
 use Rattle.model.specs.Text.{firstPart}
-use Rattle.sheet.proofs.Parts.{first-here, first-on, first-none}
-use Rattle.sheet.proofs.run_length.Statement.{statement}
-use Rattle.sheet.proofs.run_length.Tie as tie
+use Rattle.values.proofs.Parts.{first-here, first-on, first-none}
+use Rattle.values.proofs.run_length.Statement.{statement}
+use Rattle.values.proofs.run_length.Tie as tie
 
 abbrev Inv-loop : tie.InvT-loop
 Inv-loop s from separator i₀ i =
