@@ -95,7 +95,7 @@ impl Engine {
     }
 
     /// Check 4, as far as the types leave it open.
-    #[inline(never)]
+    #[inline]
     pub fn is_valid(&self) -> bool {
         let amount = |x: u64| (1 << 32..1 << 40).contains(&x);
         let stamp = |s: &Stamp| s.sec <= LAST && u64::from(s.ns) < NS;

@@ -1,6 +1,7 @@
 // Interrupt words: one constant table of bit positions by source, which setting and reading share, and the masks.
-// Each function returns a definition of the model's specs/Interrupts.antt. Document 01, "Interrupt words"; sheet
-// 000, 7.2.18 to 7.2.20.
+// Each function returns a definition of the model's specs/Interrupts.antt; its `latch` goes through the whole table,
+// and here a source or two at a time (specs/Position.antt; proofs/Table.antt says that it is the same). Document 01,
+// "Interrupt words"; sheet 000, 7.2.18 to 7.2.20.
 ghost use mathlib.Core.Path.{_≡_};
 ghost use mathlib.Core.Bool.{_&&_};
 ghost use Prim.Native.Nat.{_<_, _^_};

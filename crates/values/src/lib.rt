@@ -1,5 +1,5 @@
-// One value of a command sheet: decimal digits without leading zeros, below 2^64, by itself or at an index of a line, up
-// to its comma. Each function returns a definition of the model's specs/Text.antt. Document 01, "Command sheet".
+// One value of a command sheet: decimal digits without leading zeros, below 2^64, by itself or at an index of a line,
+// up to its comma. Each function returns a definition of the model's specs/Text.antt. Document 01, "Command sheet".
 ghost use mathlib.Core.Path.{_≡_};
 ghost use Prim.Native.Nat.{_<_, _≤_};
 ghost use lib.ListN.{length};
@@ -149,7 +149,7 @@ fn two_at(s: &[u8], at: usize) -> u64
     wide(tens - 48) * 10 + wide(units - 48)
 }
 
-// A value up to the next comma, and where that stands; without one there is no value, and the text ends there.
+// A value, and where it ends: at the next comma, or where none follows, at the end of the text.
 pub struct Taken {
     pub value: Value,
     pub end: usize,
@@ -167,6 +167,7 @@ fn value_to(ok: bool, number: u64, end: usize) -> Taken
     }
 }
 
+// The value at an index, which has to have a comma behind it. One digit or two are taken at once, as most values are.
 pub fn take_value(s: &[u8], at: usize) -> Taken
     requires { ⌜ at ≤ length (now s) ⌝ }
     ensures { λ r. ⌜ TakenAt (now (s .entry)) at r ⌝ }
