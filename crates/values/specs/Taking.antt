@@ -1,5 +1,5 @@
--- The value at an index of a line: one digit or two before a comma, and any text up to the next separator. Document 01,
--- "Command sheet".
+-- The value at an index of a line: one digit or two before a comma, and any text up to the next separator. Document
+-- 01, "Command sheet".
 use Prim.Native.Nat.{ℕ, _+_, _/_, _%_, _≤_, _<_}
 use mathlib.Core.Path.{_≡_}
 use mathlib.Core.List.{List}

@@ -1,5 +1,5 @@
--- The tests are those of a digit, and of 2^64 without passing it: its last number below is ten times 1844674407370955161
--- and 5 more, so a smaller number takes every digit, this one up to 5, and a larger one none.
+-- The tests are those of a digit, and of 2^64 without passing it: the last number below is ten times
+-- 1844674407370955161 and 5 more, so a smaller number takes every digit, this one up to 5, and a larger one none.
 use Prim.Native.Nat.{ℕ, _+_, _*_, _-_, _^_, _<_, _≤_}
 use mathlib.Core.Path.{_≡_, _∙_}
 use mathlib.Core.Bool.{and-false}
