@@ -9,8 +9,8 @@ use Rattle.model.specs.declared.Engine.{Engine}
 use Rattle.model.specs.declared.Command.{Command}
 use Rattle.model.specs.declared.Outcome.{Outcome}
 use Rattle.model.specs.Words.{noWords}
+use Rattle.model.specs.Outcome.{refused}
 use Rattle.model.specs.Checks.{answerOf, readsFifo}
-use Rattle.model.specs.Execute.{refused}
 use Rattle.model.proofs.Laws.Tests.{both}
 use Rattle.change.specs.Changes.{changeTo, movesFifo, Gives}
 

@@ -12,7 +12,8 @@ use Rattle.model.specs.Clock.{shown}
 use Rattle.model.specs.declared.Fifo.{Fifo}
 use Rattle.model.specs.Fifo.{isFull, captured, popped}
 use Rattle.model.specs.Record.{withFifos, fifo, withFifo}
-use Rattle.model.specs.Checks.{answerOf, tickStep, readsFifo}
+use Rattle.model.specs.Tick.{tickStep}
+use Rattle.model.specs.Checks.{answerOf, readsFifo}
 use Rattle.change.specs.declared.Change.{Change}
 
 -- every part of a record but its FIFOs

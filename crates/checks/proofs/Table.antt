@@ -10,7 +10,7 @@ use Rattle.model.specs.declared.Engine.{Engine}
 use Rattle.model.specs.declared.Command.{Command}
 use Rattle.model.specs.Tests.{Check, firstFailed}
 use Rattle.model.specs.Ranges.{valid}
-use Rattle.model.specs.Checks.{checks, laterChecks, answerOf}
+use Rattle.model.specs.Checks.{laterRows, checked, checks, answerOf}
 use Rattle.checks.specs.First.{firstOf}
 
 -- what the lines of a list make of the answer so far
@@ -38,6 +38,6 @@ first-found (k ∷ ks) p = go (k .holds) (first-found ks (p .1))
     go false found = kept (k .number) ks (p .0)
 
 -- on a valid record the answer is what the list from 5 on gives
-pub answer-found : (e : Engine) (c : Command) → valid e ≡ true → throughList 0 (laterChecks e c) ≡ answerOf e c
+pub answer-found : (e : Engine) (c : Command) → valid e ≡ true → throughList 0 (checked e c laterRows) ≡ answerOf e c
 unfolding answerOf checks
-answer-found e c v = rw v (first-found (laterChecks e c) (omega arith))
+answer-found e c v = rw v (first-found (checked e c laterRows) (omega arith))

@@ -1,4 +1,4 @@
-// The checks of a command on a valid record, numbers 5 to 15: a function for each that is more than a comparison,
+// The checks of a command on a valid record, from number 5 on: a function for each that is more than a comparison,
 // and the ordered list, where the first that fails is the answer. Each returns what the model's table says of its
 // number (specs/Checks.antt). Document 01, "Where each command is checked".
 ghost use mathlib.Core.Path.{_≡_};
@@ -9,6 +9,7 @@ ghost use Rattle.model.specs.Checks.{readsFifo, writes as writesSpec, passes, a
 ghost use Rattle.checks.specs.First.{firstOf};
 use model::Command;
 use model::Engine;
+use model::OPS;
 use tests::both;
 use tests::either;
 use tests::fails;
@@ -34,7 +35,7 @@ fn reads_fifo(c: Command) -> bool
 
 // Op 2 with a write of this selector.
 fn writes(c: Command, selector: u64) -> bool
-    ensures { λ r. ⌜ r ≡ writesSpec c selector ⌝ }
+    ensures { λ r. ⌜ r ≡ writesSpec selector c ⌝ }
 {
     both(c.op == 2, c.a == selector)
 }
@@ -131,7 +132,7 @@ pub fn answer(e: Engine, c: Command) -> u64
     requires { ⌜ valid e ≡ true ⌝ }
     ensures { λ r. ⌜ r ≡ answerOf e c ⌝ }
 {
-    let known = c.op <= 8;
+    let known = c.op < OPS;
     let listed = fields::fields_ok(c);
     let waiting = timestamp_waits(e, c);
     let time = time_ok(e, c);

@@ -1,14 +1,14 @@
-// The clock and its steering: the amount of a cycle, the step, the tick with its carries, the adjustment's cycles,
-// and the two tests on the time shown. Each function returns a definition of the model's specs/Clock.antt, which
-// adds on totals; the carries here are shown to be the same. Document 01, "The clock".
+// The clock and its steering: the amount of a cycle, the step, the tick with its carries, what a cycle makes of the
+// steering, and the two tests on the time shown. Each function returns a definition of the model's specs/Clock.antt,
+// which adds on totals; the carries here are shown to be the same. Document 01, "The clock".
 ghost use mathlib.Core.Path.{_≡_};
 ghost use mathlib.Core.Bool.{true};
 ghost use Prim.Native.Nat.{_+_, _*_, _<_, _≤_, _^_};
 ghost use lib.Dec.{leb, ltb};
 ghost use Rattle.model.specs.Clock.{shown, endOfTime, cycleAmount, stepBy, ticked, clockSet};
-ghost use Rattle.model.specs.Clock.{noAdjustment, spent, lastCycle};
+ghost use Rattle.model.specs.Clock.{noAdjustment, spent};
 ghost use Rattle.model.specs.Bounds.{ClockIn};
-ghost use Rattle.clock.specs.Cycle.{Cycle};
+ghost use Rattle.clock.specs.Cycle.{steeredOf, Cycle};
 use model::Adjustment;
 use model::Clock;
 use model::NS_PER_SECOND;
@@ -70,7 +70,7 @@ pub fn no_adjustment() -> Adjustment
 }
 
 // The adjustment after a tick.
-pub fn spend(j: Adjustment) -> Adjustment
+fn spend(j: Adjustment) -> Adjustment
     ensures { λ r. ⌜ r ≡ spent j ⌝ }
 {
     if j.cycles <= 1 {
@@ -82,11 +82,27 @@ pub fn spend(j: Adjustment) -> Adjustment
     }
 }
 
-// The tick that sets TAC.
-pub fn is_last_cycle(j: Adjustment) -> bool
-    ensures { λ r. ⌜ r ≡ lastCycle j ⌝ }
+// What a cycle makes of the steering: its amount, the steering after it (PERIOD stays), and whether it was an
+// adjustment's last, which sets TAC.
+pub struct Steered {
+    pub amount: u64,
+    pub steering: Steering,
+    pub last: bool,
+}
+
+pub fn steer(s: Steering) -> Steered
+    ensures { λ r. ⌜ r ≡ steeredOf s ⌝ }
 {
-    j.cycles == 1
+    let j = s.adjustment;
+    let adjustment = spend(j);
+    Steered {
+        amount: cycle_amount(s),
+        steering: Steering {
+            period: s.period,
+            adjustment: adjustment,
+        },
+        last: j.cycles == 1,
+    }
 }
 
 // A tick of this step ends within the last second: in an earlier second always, in the last one by what it shows.

@@ -1,20 +1,26 @@
 -- Accepted or refused, a change is the model's outcome, which has a valid record again where the record was valid; a
 -- record that is not valid is refused with 4; and the latched bits of an accepted command's record are 16 bits.
 use Prim.Native.Nat.{ℕ, _<_, _^_}
-use mathlib.Core.Path.{_≡_, refl, sym, ap, _∙_}
+use mathlib.Core.Path.{_≡_, refl, sym, ap, subst, _∙_}
 use mathlib.Core.Bool.{true, false}
+use native.Mathlib.Omega.{arith}
 use lib.Dec.{eqb}
-use borrow.Author.Tests.{eq-eqb, ne-eqb}
+use lib.ListN.{getD}
+use borrow.Author.Tests.{eqb-false, eq-eqb, ne-eqb}
 use Rattle.model.specs.declared.Engine.{Engine}
 use Rattle.model.specs.declared.Command.{Command}
+use Rattle.model.specs.declared.Outcome.{Outcome}
 use Rattle.model.specs.Words.{noWords}
+use Rattle.model.specs.Outcome.{refused}
+use Rattle.model.specs.Ops.{ops, unknown, performed}
 use Rattle.model.specs.Ranges.{valid}
 use Rattle.model.specs.Checks.{checks, answerOf, readsFifo}
-use Rattle.model.specs.Execute.{execute, performed, commanded, refused}
+use Rattle.model.specs.Execute.{execute}
 use Rattle.model.proofs.Laws.Ranges.{valid-parts}
 use Rattle.model.proofs.Laws.Parts.{interrupts-in}
 use Rattle.model.proofs.Laws.Bits.{only-bits-lt}
-use Rattle.model.proofs.Laws.Checks.{accepted-facts}
+use Rattle.model.proofs.Laws.Tables.{NoneOf, past-arms}
+use Rattle.model.proofs.Laws.Checks.{accepted-facts, performed-row}
 use Rattle.model.proofs.Laws.Valid.{execute-valid}
 use Rattle.change.specs.declared.Change.{Change}
 use Rattle.change.specs.Changes.{changeTo, outcomeOf, Gives}
@@ -22,18 +28,26 @@ use Rattle.change.proofs.Given.{refused-gives, order-still}
 use Rattle.engine.specs.Stepped.{Stepped}
 
 module _ (e : Engine) (c : Command) where
-  pub performed-command : c .op ≡ 2 → performed e c ≡ commanded e (c .a) (c .b)
-  unfolding performed
-  performed-command o = rw o refl
+  -- an accepted op that is none of 0 to 7 is the last of the table
+  pub last-op : answerOf e c ≡ 0 → eqb (c .op) 0 ≡ false → NoneOf 1 7 (c .op) → c .op ≡ 8
+  last-op passed order none =
+      let some = eqb-false (c .op) 0 order in
+      let known = accepted-facts e c passed .op in
+      let past = past-arms 1 7 (c .op) (omega arith) none in
+      omega arith
 
-  -- an op that is neither 0 nor 2 moves no FIFO
+  -- an op is its row of the table; one that is neither 0 nor 2 moves no FIFO
+  pub row-gives : {m : Change} (n : ℕ) → c .op ≡ n → Gives e c (getD ops n unknown e c) m → Gives e c (performed e c) m
+  row-gives {m} n o g = subst (λ (r : Outcome). Gives e c r m) (sym (performed-row e c n o)) g
+
   pub stays-gives : {m : Change} (n : ℕ) → c .op ≡ n → eqb n 0 ≡ false → eqb n 2 ≡ false → m .moves ≡ false
-      → outcomeOf e c m ≡ performed e c
+      → outcomeOf e c m ≡ getD ops n unknown e c
       → Gives e c (performed e c) m
   stays-gives n o no-tick no-command still is =
       let two : eqb (c .op) 2 ≡ false = ap (λ x. eqb x 2) o ∙ no-command in
       let none : readsFifo c ≡ false = rw two refl in
-      record { is = is; moving = still ∙ sym (order-still e c (ap (λ x. eqb x 0) o ∙ no-tick) none) }
+      row-gives n o
+      (record { is = is; moving = still ∙ sym (order-still e c (ap (λ x. eqb x 0) o ∙ no-tick) none) })
 
   pub accepted-gives : {m : Change} → answerOf e c ≡ 0 → Gives e c (performed e c) m → Gives e c (execute e c) m
   unfolding execute

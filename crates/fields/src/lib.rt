@@ -116,7 +116,10 @@ pub fn fields_ok(c: Command) -> bool
         2 => command_fields(c),
         3 => arm_fields(c),
         4 => stop_fields(c),
+        5 => no_fields(c),
         6 => mask_fields(c),
+        7 => no_fields(c),
+        8 => no_fields(c),
         _ => no_fields(c),
     }
 }

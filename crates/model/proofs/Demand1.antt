@@ -8,29 +8,37 @@ use mathlib.Core.List.{List}
 use mathlib.Core.Bool.{true}
 use Rattle.model.specs.declared.Engine.{Engine}
 use Rattle.model.specs.declared.Command.{Command}
-use Rattle.model.specs.Checks.{passes, Cause}
-use Rattle.model.specs.Execute.{execute, refused}
+use Rattle.model.specs.declared.Outcome.{Outcome}
+use Rattle.model.specs.Checks.{lastNumber, passes, Cause}
+use Rattle.model.specs.Execute.{execute}
 use Rattle.model.specs.Run.{engineAfter}
 use Rattle.model.proofs.Laws.Checks.{execute-refused}
 use Rattle.model.proofs.Laws.Outcomes
 
--- a refused command gives its number, five zeros and the same record
-pub refusal : (e : Engine) (c : Command) → (execute e c .answer ≡ 0 → ⊥)
-    → execute e c ≡ refused e (execute e c .answer)
-refusal = execute-refused
+-- what comes out of a refused command, beside its number
+pub record Refusal (e : Engine) (o : Outcome) : Type 0 where
+  pub v1 : o .values .w1 ≡ 0
+  pub v2 : o .values .w2 ≡ 0
+  pub v3 : o .values .w3 ≡ 0
+  pub v4 : o .values .w4 ≡ 0
+  pub v5 : o .values .w5 ≡ 0
+  pub unchanged : o .engine ≡ e
+
+pub refusal : (e : Engine) (c : Command) → (execute e c .answer ≡ 0 → ⊥) → Refusal e (execute e c)
+refusal e c n = rw (execute-refused e c n) (search)
 
 -- the answer is n exactly when check n fails and every check above it passes
-pub one-cause : (e : Engine) (c : Command) (n : ℕ) → 4 ≤ n → n ≤ 15 → (execute e c .answer ≡ n) ↔ Cause e c n
+pub one-cause : (e : Engine) (c : Command) (n : ℕ) → 4 ≤ n → n ≤ lastNumber → (execute e c .answer ≡ n) ↔ Cause e c n
 one-cause e c n low high = (Outcomes.answer-cause e c n low, Outcomes.cause-answer e c n low)
 
 -- it is 0 exactly when every check passes
 pub accepted-cause : (e : Engine) (c : Command)
-    → (execute e c .answer ≡ 0) ↔ ((n : ℕ) → 4 ≤ n → n ≤ 15 → passes e c n ≡ true)
+    → (execute e c .answer ≡ 0) ↔ ((n : ℕ) → 4 ≤ n → n ≤ lastNumber → passes e c n ≡ true)
 accepted-cause e c = (Outcomes.accepted-passes e c, Outcomes.passes-accepted e c)
 
 -- and it is no other number
 pub no-other-number : (e : Engine) (c : Command) → (execute e c .answer ≡ 0 → ⊥)
-    → (4 ≤ execute e c .answer) × (execute e c .answer ≤ 15)
+    → (4 ≤ execute e c .answer) × (execute e c .answer ≤ lastNumber)
 no-other-number = Outcomes.answer-bounds
 
 -- number 4 never comes in a list from power-on

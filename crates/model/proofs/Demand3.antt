@@ -1,11 +1,11 @@
 -- Demand 3, against the ledger of document 01: one statement over every list of commands from power-on. The record
--- after the list is `engineAfter cs`; `accountAfter cs` is the ledger and the returned edges, kept from the commands,
--- answers and values alone.
+-- after the list is `engineAfter cs`; `ledgerAfter cs` is the ledger, with the returned edges under each order, kept
+-- from the commands, answers and values alone.
 use mathlib.Core.List.{List}
 use Rattle.model.specs.declared.Command.{Command}
 use Rattle.model.specs.Run.{engineAfter}
 use Rattle.model.specs.Fractions.{Fraction, over, plus, Same, NotAbove, Below}
-use Rattle.model.specs.Returned.{accountAfter}
+use Rattle.model.specs.Bookings.{ledgerAfter}
 use Rattle.model.specs.Instants.{timeShown, timeLeft, EdgesReturned, EdgesLag}
 use Rattle.model.proofs.Follow.Lists
 
@@ -14,7 +14,7 @@ abbrev pub shownAfter : List Command → Fraction
 shownAfter cs = timeShown (engineAfter cs)
 
 abbrev pub exactAfter : List Command → Fraction
-exactAfter cs = accountAfter cs .ledger .time
+exactAfter cs = ledgerAfter cs .time
 
 pub record Demand3 (cs : List Command) : Type 0 where
   -- the time shown plus the remainder equals the ledger's exact time
@@ -24,12 +24,12 @@ pub record Demand3 (cs : List Command) : Type 0 where
   pub lessThan256thBelow : Below (exactAfter cs) (plus (shownAfter cs) (over 1 256))
   -- while an order stands, the edges returned since the arming are edges 0 to j - 1 in this order, j of its instants
   -- being below the time shown, edge k rising where k is even; without an order there are none
-  pub edges1 : EdgesReturned (accountAfter cs .ledger .order1) (accountAfter cs .edges1) (shownAfter cs)
-  pub edges2 : EdgesReturned (accountAfter cs .ledger .order2) (accountAfter cs .edges2) (shownAfter cs)
+  pub edges1 : EdgesReturned (ledgerAfter cs .train1 .order) (ledgerAfter cs .train1 .edges) (shownAfter cs)
+  pub edges2 : EdgesReturned (ledgerAfter cs .train2 .order) (ledgerAfter cs .train2 .edges) (shownAfter cs)
   -- instant k minus the exact time at the start of its edge's eighth is above -1/256 ns and below an eighth of the
   -- amount
-  pub lags1 : EdgesLag (accountAfter cs .ledger .order1) (accountAfter cs .edges1)
-  pub lags2 : EdgesLag (accountAfter cs .ledger .order2) (accountAfter cs .edges2)
+  pub lags1 : EdgesLag (ledgerAfter cs .train1 .order) (ledgerAfter cs .train1 .edges)
+  pub lags2 : EdgesLag (ledgerAfter cs .train2 .order) (ledgerAfter cs .train2 .edges)
 
 pub demand-3 : (cs : List Command) → Demand3 cs
 demand-3 cs = record {

@@ -19,6 +19,9 @@ use Rattle.model.specs.Record
 use Rattle.model.specs.Ranges
 use Rattle.model.specs.Fields
 use Rattle.model.specs.Checks
+use Rattle.model.specs.Tick
+use Rattle.model.specs.Orders
+use Rattle.model.specs.Ops
 use Rattle.model.specs.Execute
 use Rattle.model.specs.Text
 use Rattle.model.specs.Text.{bytes}
@@ -194,15 +197,15 @@ examples-tested : asStated examples ≡ true
 unfolding examples asStated same answers lastValues values shownAfter edgeAt edgesFrom engineFrom historyFrom
     Words.secondsIn Words.nanosecondsIn Words.aboveNanoseconds Words.wholeIn Words.fracIn Words.amountIn
     Words.belowFrac Words.countIn Words.timeWords Clock.cycleAmount Clock.stepBy Clock.remainderBy Clock.ticked
-    Clock.spent Clock.lastCycle Fifo.timestampNs Fifo.timestampOf Fifo.captured Fifo.capturesFirst Fifo.overflows
+    Clock.spent Clock.lastCycle Clock.steeringAfter Fifo.timestampNs Fifo.timestampOf Fifo.captured Fifo.capturesFirst Fifo.overflows
     Fifo.popped Generator.nextInstant Generator.isBefore Generator.isDue Generator.eighthOf Generator.placed
     Generator.following Generator.generated Generator.completesEvent Generator.completesSequence Interrupts.withBit
     Interrupts.latch Interrupts.anyBoth Interrupts.interruptWord Interrupts.statusWord Interrupts.onlyBits
     Record.powerOn Ranges.clockOk Ranges.adjustmentOk Ranges.steeringOk Ranges.timestampOk Ranges.placeOk
     Ranges.fifoOk Ranges.generatorOk Ranges.interruptsOk Ranges.wordsOk Ranges.valid Fields.fieldTests
-    Fields.fieldsOk Checks.checks Checks.answerOf Execute.tickEvents Execute.tickEngine Execute.tickValues
-    Execute.written Execute.readWords Execute.readEngine Execute.commanded Execute.interruptsRead Execute.statusOf
-    Execute.performed Execute.execute verdict Text.isValue Sheet.isLine Sheet.sheetVerdict Sheet.commandsIn
+    Fields.fieldsOk Checks.checks Checks.answerOf Tick.tickEvents Tick.tickEngine Tick.tickValues
+    Orders.written Orders.readWords Orders.readEngine Orders.commanded Orders.interruptsRead Orders.statusOf
+    Ops.performed Execute.execute verdict Text.isValue Sheet.isLine Sheet.sheetVerdict Sheet.commandsIn
     Text.decimal Results.results
 examples-tested = refl
 

@@ -2,9 +2,11 @@
 -- takes a test apart into facts, `-ok` says that a part passes its test, `-valid` that a record does, `-is` gives a
 -- fraction's value, `-test` the value of a test.
 
--- tests and checks; the ranges of check 4 as facts
+-- tests and checks, tables; the ranges of check 4 and the field lists as facts
 pub mod Tests
+pub mod Tables
 pub mod Ranges
+pub mod Fields
 -- the parts
 pub mod Words
 pub mod Clock

@@ -2,65 +2,89 @@
 -- answer.
 use Prim.Native.Nat.{ℕ, _+_, _*_, _-_, _<_, _≤_}
 use mathlib.Core.Path.{_≡_}
-use mathlib.Core.List.{List, [], _∷_}
+use mathlib.Core.List.{List, [], _∷_, map}
 use mathlib.Core.Bool.{Bool, true, false, _&&_, _||_, not}
 use lib.Dec.{eqb, leb, ltb}
+use lib.ListN.{length}
 use Rattle.model.specs.declared.Engine.{Engine}
 use Rattle.model.specs.declared.Command.{Command}
 use Rattle.model.specs.Tests.{Check, check, holdsAt, firstFailed}
 use Rattle.model.specs.Words.{nanosecondsIn, aboveNanoseconds, wholeIn, belowFrac, countIn}
-use Rattle.model.specs.Clock.{shown, endOfTime, cycleAmount, stepBy}
+use Rattle.model.specs.Clock.{shown}
 use Rattle.model.specs.Fifo.{isEmpty}
 use Rattle.model.specs.Generator.{isRunning}
 use Rattle.model.specs.Record.{fifo, generator}
+use Rattle.model.specs.Tick.{endsInTime}
+use Rattle.model.specs.Ops.{ops}
 use Rattle.model.specs.Ranges.{valid}
 use Rattle.model.specs.Fields.{fieldsOk}
 
--- op 0 to 8
+-- an op of the table of ops
 abbrev pub isKnown : Command → Bool
-isKnown c = leb (c .op) 8
+isKnown c = ltb (c .op) (length ops)
 
-abbrev pub isOp : Command → ℕ → Bool
-isOp c n = eqb (c .op) n
+abbrev pub isOp : ℕ → Command → Bool
+isOp n c = eqb (c .op) n
 
 -- op 2 with a read of a timestamp FIFO
 abbrev pub readsFifo : Command → Bool
-readsFifo c = isOp c 2 && leb 1 (c .b) && leb (c .b) 3
+readsFifo c = isOp 2 c && leb 1 (c .b) && leb (c .b) 3
 
 -- op 2 with a write of selector n: 0 TIME, 1 PERIOD, 2 adjust
-abbrev pub writes : Command → ℕ → Bool
-writes c n = isOp c 2 && eqb (c .a) n
+abbrev pub writes : ℕ → Command → Bool
+writes n c = isOp 2 c && eqb (c .a) n
 
--- the step of a tick on this record
-abbrev pub tickStep : Engine → ℕ
-tickStep e = stepBy (e .clock) (cycleAmount (e .steering))
+abbrev pub writesAmount : Command → Bool
+writesAmount c = writes 1 c || writes 2 c
 
--- number, where it applies, what it asks
-abbrev pub recordCheck : Engine → Check
-recordCheck e = check 4 true (valid e)
+abbrev pub always : Command → Bool
+always c = true
 
-abbrev pub laterChecks : Engine → Command → List Check
-laterChecks e c =
-    check 5 true (isKnown c)
-    ∷ check 6 true (fieldsOk c)
-    ∷ check 7 (readsFifo c) (not (isEmpty (fifo e (c .b))))
-    ∷ check 8 (writes c 0) (leb (nanosecondsIn (e .words)) 999999999 && eqb (aboveNanoseconds (e .words)) 0)
-    ∷ check 9 (writes c 1 || writes c 2) (leb 1 (wholeIn (e .words)) && (writes c 2 || eqb (belowFrac (e .words)) 0))
-    ∷ check 10 (writes c 2) (leb 1 (countIn (e .words)))
-    ∷ check 11 (writes c 2) (eqb (e .steering .adjustment .cycles) 0)
-    ∷ check 12 (isOp c 3) (ltb (c .e) (c .f))
-    ∷ check 13 (isOp c 3) (not (isRunning (generator e (c .a))))
-    ∷ check 14 (isOp c 3) (leb (shown (e .clock)) ((c .b * 1000000000 + c .c) * 256))
-    ∷ check 15 (isOp c 0) (ltb (shown (e .clock) + tickStep e) endOfTime)
+-- a row of the table: its number, the commands that it applies to, and what it asks
+pub record Row : Type 0 where
+  pub number : ℕ
+  pub applies : Command → Bool
+  pub asks : Engine → Command → Bool
+
+abbrev pub row : ℕ → (Command → Bool) → (Engine → Command → Bool) → Row
+row n applies asks = record { number = n; applies = applies; asks = asks }
+
+abbrev pub recordRow : Row
+recordRow = row 4 always (λ e c. valid e)
+
+abbrev pub laterRows : List Row
+laterRows =
+    row 5 always (λ e c. isKnown c)
+    ∷ row 6 always (λ e c. fieldsOk c)
+    ∷ row 7 readsFifo (λ e c. not (isEmpty (fifo e (c .b))))
+    ∷ row 8 (writes 0) (λ e c. leb (nanosecondsIn (e .words)) 999999999 && eqb (aboveNanoseconds (e .words)) 0)
+    ∷ row 9 writesAmount (λ e c. leb 1 (wholeIn (e .words)) && (writes 2 c || eqb (belowFrac (e .words)) 0))
+    ∷ row 10 (writes 2) (λ e c. leb 1 (countIn (e .words)))
+    ∷ row 11 (writes 2) (λ e c. eqb (e .steering .adjustment .cycles) 0)
+    ∷ row 12 (isOp 3) (λ e c. ltb (c .e) (c .f))
+    ∷ row 13 (isOp 3) (λ e c. not (isRunning (generator e (c .a))))
+    ∷ row 14 (isOp 3) (λ e c. leb (shown (e .clock)) ((c .b * 1000000000 + c .c) * 256))
+    ∷ row 15 (isOp 0) (λ e c. endsInTime e)
     ∷ []
 
+abbrev pub table : List Row
+table = recordRow ∷ laterRows
+
+-- the rows are numbered from 4 on
+abbrev pub lastNumber : ℕ
+lastNumber = 3 + length table
+
+-- the rows on a record and a command
+abbrev pub checked : Engine → Command → List Row → List Check
+checked e c rows = map (λ r. check (r .number) (r .applies c) (r .asks e c)) rows
+
 unfoldable pub checks : Engine → Command → List Check
-checks e c = recordCheck e ∷ laterChecks e c
+checks e c = checked e c table
 
 unfoldable pub answerOf : Engine → Command → ℕ
 answerOf e c = firstFailed (checks e c)
 
--- whether check n of the table, 4 to 15, holds
+-- whether check n of the table holds
 abbrev pub passes : Engine → Command → ℕ → Bool
 passes e c n = holdsAt (checks e c) (n - 4)
 

@@ -52,6 +52,10 @@ spent j = cond (isOver j) noAdjustment (record { amount = j .amount; cycles = j 
 unfoldable pub lastCycle : Adjustment → Bool
 lastCycle j = eqb (j .cycles) 1
 
+-- the steering after a cycle: PERIOD stays, and the adjustment loses a cycle
+unfoldable pub steeringAfter : Steering → Steering
+steeringAfter s = record { period = s .period; adjustment = spent (s .adjustment) }
+
 -- a TIME write clears fraction and remainder
 abbrev pub clockSet : ℕ → ℕ → Clock
 clockSet seconds nanoseconds = record { seconds = seconds; nanoseconds = nanoseconds; fraction = 0; remainder = 0 }

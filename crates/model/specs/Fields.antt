@@ -1,8 +1,9 @@
 -- The field lists: number 6. Document 01, "Command sheet". Unlisted fields must be 0.
 use Prim.Native.Nat.{ℕ, _^_}
 use mathlib.Core.List.{List, [], _∷_}
-use mathlib.Core.Bool.{Bool, _||_, cond}
+use mathlib.Core.Bool.{Bool, _||_}
 use lib.Dec.{eqb, leb, ltb}
+use lib.ListN.{getD}
 use Rattle.model.specs.declared.Command.{Command}
 use Rattle.model.specs.Tests.{every}
 use Rattle.model.specs.Interrupts.{onlyBits, enabledMask}
@@ -62,15 +63,13 @@ maskFields c = onlyBits enabledMask (c .a) ∷ zeroFromB c
 abbrev pub noFields : Command → List Bool
 noFields c = eqb (c .a) 0 ∷ zeroFromB c
 
+-- the list of each op, by its number
+abbrev pub fieldLists : List (Command → List Bool)
+fieldLists =
+    tickFields ∷ loadFields ∷ commandFields ∷ armFields ∷ stopFields ∷ noFields ∷ maskFields ∷ noFields ∷ noFields ∷ []
+
 unfoldable pub fieldTests : Command → List Bool
-fieldTests c =
-    cond (eqb (c .op) 0) (tickFields c)
-    (cond (eqb (c .op) 1) (loadFields c)
-    (cond (eqb (c .op) 2) (commandFields c)
-    (cond (eqb (c .op) 3) (armFields c)
-    (cond (eqb (c .op) 4) (stopFields c)
-    (cond (eqb (c .op) 6) (maskFields c)
-    (noFields c))))))
+fieldTests c = getD fieldLists (c .op) noFields c
 
 unfoldable pub fieldsOk : Command → Bool
 fieldsOk c = every (fieldTests c)

@@ -7,8 +7,7 @@ use Rattle.model.specs.declared.Engine.{Engine}
 use Rattle.model.specs.Tests.{countBelow}
 use Rattle.model.specs.Clock.{shown}
 use Rattle.model.specs.Fractions.{Fraction, over, plus, part, isBelow, Below}
-use Rattle.model.specs.Ledger.{Order, none, standing}
-use Rattle.model.specs.Returned.{Edge}
+use Rattle.model.specs.Ledger.{Edge, Order, none, standing}
 
 -- a record's time shown, in 1/256 ns, and its remainder, in 2^-32 ns
 abbrev pub timeShown : Engine → Fraction

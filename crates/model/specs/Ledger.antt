@@ -1,140 +1,150 @@
--- The ledger of demand 3, as document 01 has it under that heading: an account kept beside the engine. It is told
--- each command's fields, answer and five values, and never looks into the record. Times and amounts are in ns.
-use Prim.Native.Nat.{ℕ, _+_, _*_, _-_, _^_}
+-- The ledger of demand 3, as document 01 has it under that heading: an account kept beside the engine, that never looks
+-- into the record. What it holds, by subject, and its steps. Times and amounts are in ns.
+use Prim.Native.Nat.{ℕ, zero, suc, _+_, _*_, _-_, _^_}
+use mathlib.Core.List.{List, [], _∷_, _++_}
 use mathlib.Core.Bool.{cond}
 use lib.Dec.{eqb}
+use lib.ListN.{getD}
 use Rattle.model.specs.declared.Command.{Command}
 use Rattle.model.specs.declared.Words.{Words}
-use Rattle.model.specs.Words.{five, noWords, secondsIn, nanosecondsIn, amountIn, countIn}
-use Rattle.model.specs.Run.{Entry}
+use Rattle.model.specs.Words.{noWords, secondsIn, nanosecondsIn, amountIn, countIn}
 use Rattle.model.specs.Fractions.{Fraction, over, plus}
+
+-- PERIOD, PER_ADJ and the adjust cycles owed
+pub record LedgerSteering : Type 0 where
+  pub period : Fraction
+  pub adjust : Fraction
+  pub owed : ℕ
 
 -- a generator's order: none, or a start, an interval and a count
 pub data Order : Type 0 where
   none : Order
   standing : Fraction → Fraction → ℕ → Order
 
--- "the ledger": words, exact time, PERIOD, PER_ADJ, the adjust cycles owed, the orders of generators 1 and 2
+-- an edge as a tick returned it, with the exact time and the amount at that tick
+pub record Edge : Type 0 where
+  pub rising : ℕ
+  pub eighth : ℕ
+  pub time : Fraction
+  pub amount : Fraction
+
+-- a generator's order, and the edges returned for it since the order began; or since the last one ended, or since
+-- power-on, where there is none
+pub record Train : Type 0 where
+  pub order : Order
+  pub edges : List Edge
+
+-- "the ledger": words, exact time, steering, the orders of generators 1 and 2
 pub record Ledger : Type 0 where
   pub words : Words
   pub time : Fraction
-  pub period : Fraction
-  pub adjust : Fraction
-  pub owed : ℕ
-  pub order1 : Order
-  pub order2 : Order
+  pub steering : LedgerSteering
+  pub train1 : Train
+  pub train2 : Train
+
+-- an order begins, or ends: no edge has been returned since
+abbrev pub opened : Order → Train
+opened o = record { order = o; edges = [] }
 
 -- at power-on
 unfoldable pub openLedger : Ledger
 openLedger = record {
   words = noWords;
   time = over 0 1;
-  period = over 8 1;
-  adjust = over 0 1;
-  owed = 0;
-  order1 = none;
-  order2 = none;
+  steering = record { period = over 8 1; adjust = over 0 1; owed = 0 };
+  train1 = opened none;
+  train2 = opened none;
 }
 
--- the amount ordered for the next cycle
-abbrev pub ordered : Ledger → Fraction
-ordered l = cond (eqb (l .owed) 0) (l .period) (l .adjust)
+-- the amount ordered for the next cycle: PER_ADJ where cycles are owed, else PERIOD
+abbrev pub ordered : LedgerSteering → Fraction
+ordered s = cond (eqb (s .owed) 0) (s .period) (s .adjust)
 
--- op 0: the amount is added to the exact time; where cycles are owed, one is taken off
+-- where cycles are owed, a tick takes one off
+abbrev pub cycleTaken : LedgerSteering → LedgerSteering
+cycleTaken s = record { period = s .period; adjust = s .adjust; owed = s .owed - 1 }
+
+-- op 0: the amount ordered is added to the exact time
 abbrev pub ledgerTicked : Ledger → Ledger
 ledgerTicked l = record {
   words = l .words;
-  time = plus (l .time) (ordered l);
-  period = l .period;
-  adjust = l .adjust;
-  owed = l .owed - 1;
-  order1 = l .order1;
-  order2 = l .order2;
+  time = plus (l .time) (ordered (l .steering));
+  steering = cycleTaken (l .steering);
+  train1 = l .train1;
+  train2 = l .train2;
+}
+
+-- op 0's step n times
+unfoldable pub ledgerTicks : ℕ → Ledger → Ledger
+ledgerTicks zero l = l
+ledgerTicks (suc n) l = ledgerTicked (ledgerTicks n l)
+
+-- edges that were returned for generators 1 and 2
+abbrev pub returning : Train → List Edge → Train
+returning t edges = record { order = t .order; edges = t .edges ++ edges }
+
+abbrev pub ledgerEdges : Ledger → List Edge → List Edge → Ledger
+ledgerEdges l edges1 edges2 = record {
+  words = l .words;
+  time = l .time;
+  steering = l .steering;
+  train1 = returning (l .train1) edges1;
+  train2 = returning (l .train2) edges2;
 }
 
 abbrev pub ledgerWords : Ledger → Words → Ledger
-ledgerWords l w = record {
-  words = w;
-  time = l .time;
-  period = l .period;
-  adjust = l .adjust;
-  owed = l .owed;
-  order1 = l .order1;
-  order2 = l .order2;
-}
+ledgerWords l w =
+    record { words = w; time = l .time; steering = l .steering; train1 = l .train1; train2 = l .train2 }
 
 -- op 2, the write, read from the ledger's words: TIME ends both orders
 abbrev pub ledgerTime : Ledger → Ledger
 ledgerTime l = record {
   words = l .words;
   time = over (secondsIn (l .words) * 1000000000 + nanosecondsIn (l .words)) 1;
-  period = l .period;
-  adjust = l .adjust;
-  owed = l .owed;
-  order1 = none;
-  order2 = none;
+  steering = l .steering;
+  train1 = opened none;
+  train2 = opened none;
 }
+
+abbrev pub ledgerSteering : Ledger → LedgerSteering → Ledger
+ledgerSteering l s =
+    record { words = l .words; time = l .time; steering = s; train1 = l .train1; train2 = l .train2 }
+
+abbrev pub amountWritten : Ledger → Fraction
+amountWritten l = over (amountIn (l .words)) (2 ^ 32)
 
 abbrev pub ledgerPeriod : Ledger → Ledger
-ledgerPeriod l = record {
-  words = l .words;
-  time = l .time;
-  period = over (amountIn (l .words)) (2 ^ 32);
-  adjust = l .adjust;
-  owed = l .owed;
-  order1 = l .order1;
-  order2 = l .order2;
-}
+ledgerPeriod l =
+    ledgerSteering l
+    (record { period = amountWritten l; adjust = l .steering .adjust; owed = l .steering .owed })
 
 abbrev pub ledgerAdjust : Ledger → Ledger
-ledgerAdjust l = record {
-  words = l .words;
-  time = l .time;
-  period = l .period;
-  adjust = over (amountIn (l .words)) (2 ^ 32);
-  owed = countIn (l .words);
-  order1 = l .order1;
-  order2 = l .order2;
-}
+ledgerAdjust l =
+    ledgerSteering l
+    (record { period = l .steering .period; adjust = amountWritten l; owed = countIn (l .words) })
+
+-- the writes by their selector, from 0; any other selector writes nothing
+abbrev pub ledgerWritings : List (Ledger → Ledger)
+ledgerWritings = ledgerTime ∷ ledgerPeriod ∷ ledgerAdjust ∷ []
 
 unfoldable pub ledgerWritten : Ledger → ℕ → Ledger
-ledgerWritten l selector =
-    cond (eqb selector 0) (ledgerTime l)
-    (cond (eqb selector 1) (ledgerPeriod l)
-    (cond (eqb selector 2) (ledgerAdjust l)
-    l))
+ledgerWritten l selector = getD ledgerWritings selector (λ l. l) l
 
 -- op 2: the write first; then, on a read, the words become v1 to v5
 unfoldable pub ledgerCommanded : Ledger → ℕ → ℕ → Words → Ledger
 ledgerCommanded l write read values =
     cond (eqb read 8) (ledgerWritten l write) (ledgerWords (ledgerWritten l write) values)
 
--- ops 3 and 4: a generator's order becomes another, or ends
+-- ops 3 and 4: generator n's order becomes another, or ends
 abbrev pub ledgerOrder : Ledger → ℕ → Order → Ledger
 ledgerOrder l n o = record {
   words = l .words;
   time = l .time;
-  period = l .period;
-  adjust = l .adjust;
-  owed = l .owed;
-  order1 = cond (eqb n 1) o (l .order1);
-  order2 = cond (eqb n 1) (l .order2) o;
+  steering = l .steering;
+  train1 = cond (eqb n 1) (opened o) (l .train1);
+  train2 = cond (eqb n 1) (l .train2) (opened o);
 }
 
 -- op 3: start b s c ns, interval d + e/f ns, count g
 abbrev pub orderOf : Command → Order
 orderOf c = standing (over (c .b * 1000000000 + c .c) 1) (plus (over (c .d) 1) (over (c .e) (c .f))) (c .g)
-
--- an accepted command, by its op
-unfoldable pub booked : Ledger → Command → Words → Ledger
-booked l c values =
-    cond (eqb (c .op) 0) (ledgerTicked l)
-    (cond (eqb (c .op) 1) (ledgerWords l (five (c .a) (c .b) (c .c) (c .d) (c .e)))
-    (cond (eqb (c .op) 2) (ledgerCommanded l (c .a) (c .b) values)
-    (cond (eqb (c .op) 3) (ledgerOrder l (c .a) (orderOf c))
-    (cond (eqb (c .op) 4) (ledgerOrder l (c .a) none)
-    l))))
-
--- refused, whatever the op: nothing changes
-unfoldable pub told : Ledger → Entry → Ledger
-told l x = cond (eqb (x .answer) 0) (booked l (x .command) (x .values)) l

@@ -10,8 +10,13 @@ pub mod Edges
 pub mod Fifo
 pub mod Generator
 pub mod Interrupts
--- the whole: the record, its ranges (number 4), the field lists (number 6), the table of checks, the ops, a run
+-- the whole: the record, and what each op does: a tick, the others, the table of ops
 pub mod Record
+pub mod Outcome
+pub mod Tick
+pub mod Orders
+pub mod Ops
+-- the record's ranges (number 4), the field lists (number 6), the table of checks; the checks, then the op; a run
 pub mod Ranges
 pub mod Bounds
 pub mod Fields
@@ -22,8 +27,9 @@ pub mod Run
 pub mod Text
 pub mod Sheet
 pub mod Results
--- the other side of demand 3: exact fractions, the ledger, the returned edges, and what is asked of them
+-- the other side of demand 3: exact fractions, the ledger and its steps, how an entry of the history
+-- is booked, and what is asked
 pub mod Fractions
 pub mod Ledger
-pub mod Returned
+pub mod Bookings
 pub mod Instants

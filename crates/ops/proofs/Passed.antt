@@ -13,12 +13,12 @@ use Rattle.model.specs.declared.Words.{Words}
 use Rattle.model.specs.Words.{noWords, timeWords}
 use Rattle.model.specs.Fifo.{entry}
 use Rattle.model.specs.Record.{withWords, fifo}
+use Rattle.model.specs.Outcome.{accepted}
+use Rattle.model.specs.Orders.{written, stampWords, readWords, readEngine, commanded}
 use Rattle.model.specs.Checks.{isOp, readsFifo}
-use Rattle.model.specs.Execute.{accepted, written, stampWords, readWords, readEngine, commanded}
-use Rattle.model.proofs.Laws.Tests.{split}
 use Rattle.model.proofs.Laws.Ranges.{valid-parts, words-in}
 use Rattle.model.proofs.Laws.Parts.{fifo-at-ok}
-use Rattle.model.proofs.Laws.Checks.{Accepted, accepted-facts}
+use Rattle.model.proofs.Laws.Checks.{Accepted, accepted-facts, by-write}
 use Rattle.model.proofs.Laws.Valid.{reads-fifo, fifo-filled}
 use Rattle.change.specs.declared.Change.{Change}
 use Rattle.change.specs.Changes.{changeTo, applied, oldestTaken, outcomeOf, movesFifo, Gives}
@@ -42,17 +42,14 @@ module _ (e : Engine) (c : Command) (k : Commands e c) where
 
   reads-none : eqb (c .b) 8 ≡ true → readsFifo c ≡ false
   reads-none b8 =
-      rw (lt-leb (c .b) 3 (omega (arith, eqb-true (c .b) 8 b8))) (and-false (isOp c 2 && leb 1 (c .b)))
+      rw (lt-leb (c .b) 3 (omega (arith, eqb-true (c .b) 8 b8))) (and-false (isOp 2 c && leb 1 (c .b)))
 
   -- the write leaves the FIFOs alone, so its record is the change to it
   pub written-gives : (now : Engine) → now ≡ written e (c .a) → eqb (c .b) 8 ≡ true
       → Gives e c (commanded e (c .a) (c .b)) (changeTo 0 noWords now false)
-  unfolding commanded written
+  unfolding commanded
   written-gives now is b8 =
-      let outcome =
-      split Same (eqb (c .a) 0) (λ y. refl) (λ y.
-      split Same (eqb (c .a) 1) (λ y. refl) (λ y.
-      split Same (eqb (c .a) 2) (λ y. refl) (λ y. refl))) in
+      let outcome = by-write Same e (c .a) (search) in
       rw is (record { is = rw b8 outcome; moving = sym (order-still e c ordered (reads-none b8)) })
     where
       Same : Engine → Type 0
@@ -76,12 +73,8 @@ module _ (e : Engine) (c : Command) (k : Commands e c) where
     changeNow = changeTo 0 wordsNow (withWords (written e (c .a)) wordsNow) (not (eqb (c .b) 0))
 
     by-selector : (z : Bool) → eqb (c .b) 0 ≡ z → outcomeOf e c changeNow ≡ commanded e (c .a) (c .b)
-    unfolding commanded written readWords readEngine
-    by-selector true y =
-        rw (n8, y)
-        (split Same (eqb (c .a) 0) (λ y. refl) (λ y.
-        split Same (eqb (c .a) 1) (λ y. refl) (λ y.
-        split Same (eqb (c .a) 2) (λ y. refl) (λ y. refl))))
+    unfolding commanded readWords readEngine
+    by-selector true y = rw (n8, y) (by-write Same e (c .a) (search))
       where
         shownWords : Engine → Words
         shownWords x = timeWords (x .clock .seconds) (x .clock .nanoseconds) 0
@@ -91,10 +84,7 @@ module _ (e : Engine) (c : Command) (k : Commands e c) where
             outcomeOf e c (changeTo 0 (shownWords x) (withWords x (shownWords x)) false)
             ≡ accepted (shownWords x) (withWords x (shownWords x))
     by-selector false y =
-        rw (n8, y, ordered)
-        (split Same (eqb (c .a) 0) (λ y. refl) (λ y.
-        split Same (eqb (c .a) 1) (λ y. refl) (λ y.
-        split Same (eqb (c .a) 2) (λ y. refl) (λ y. refl))))
+        rw (n8, y, ordered) (by-write Same e (c .a) (search))
       where
         oldestWords : Engine → Words
         oldestWords x = stampWords (entry (fifo x (c .b)) 0)
@@ -110,7 +100,7 @@ module _ (e : Engine) (c : Command) (k : Commands e c) where
     unfolding movesFifo
     moves-by true y =
         let b0 = eqb-true (c .b) 0 y in
-        sym (order-still e c ordered (rw (lt-leb 1 (c .b) (omega arith), and-false (isOp c 2)) refl))
+        sym (order-still e c ordered (rw (lt-leb 1 (c .b) (omega arith), and-false (isOp 2 c)) refl))
     moves-by false y = rw (eq-eqb _ _ (k .passed), ordered, reads y) refl
 
     pub read-gives : Gives e c (commanded e (c .a) (c .b)) changeNow

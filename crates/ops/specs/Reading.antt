@@ -10,9 +10,9 @@ use Rattle.model.specs.declared.Words.{Words}
 use Rattle.model.specs.Words.{timeWords}
 use Rattle.model.specs.Fifo.{isEmpty, entry}
 use Rattle.model.specs.Record.{fifo}
+use Rattle.model.specs.Orders.{stampWords}
 use Rattle.model.specs.Ranges.{fifoOk}
 use Rattle.model.specs.Checks.{answerOf}
-use Rattle.model.specs.Execute.{stampWords}
 
 -- an accepted command of op 2
 pub record Commands (e : Engine) (c : Command) : Type 0 where

@@ -4,13 +4,13 @@
 ghost use mathlib.Core.Path.{_≡_};
 ghost use mathlib.Core.Bool.{false};
 ghost use Prim.Native.Nat.{_<_, _^_};
-ghost use Rattle.model.specs.Bounds.{WordsIn};
+ghost use Rattle.model.specs.Words.{noWords};
 ghost use Rattle.model.specs.Fifo.{isEmpty, entry};
 ghost use Rattle.model.specs.Generator.{idleGenerator};
 ghost use Rattle.model.specs.Record.{withWords, withGenerator, fifo};
-ghost use Rattle.model.specs.Words.{noWords};
-ghost use Rattle.model.specs.Execute.{justFirst, loadedWords, armedBy, maskSet, statusOf, interruptsRead, commanded};
-ghost use Rattle.model.specs.Execute.{timeWritten, periodWritten, adjustWritten, written};
+ghost use Rattle.model.specs.Orders.{justFirst, loadedWords, armedBy, maskSet, statusOf, interruptsRead, commanded};
+ghost use Rattle.model.specs.Orders.{timeWritten, periodWritten, adjustWritten, written};
+ghost use Rattle.model.specs.Bounds.{WordsIn};
 ghost use Rattle.change.specs.Changes.{changeTo, oldestTaken, Gives};
 ghost use Rattle.ops.specs.Reading.{Commands, Readable, wordsRead};
 use change::Change;

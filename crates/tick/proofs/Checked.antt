@@ -10,27 +10,26 @@ use Rattle.model.specs.declared.Command.{Command}
 use Rattle.model.specs.Tests.{every}
 use Rattle.model.specs.Words.{noWords}
 use Rattle.model.specs.Clock.{shown, endOfTime, cycleAmount, stepBy}
+use Rattle.model.specs.Outcome.{accepted}
+use Rattle.model.specs.Tick.{endsInTime, tickEngine, tickValues}
+use Rattle.model.specs.Ops.{performed}
 use Rattle.model.specs.Ranges.{valid}
 use Rattle.model.specs.Fields.{tickFields, fieldsOk, fieldTests}
-use Rattle.model.specs.Checks.{answerOf, checks, tickStep}
-use Rattle.model.specs.Execute.{execute, performed, accepted, tickEngine, tickValues}
+use Rattle.model.specs.Checks.{answerOf, checks}
+use Rattle.model.specs.Execute.{execute}
 use Rattle.change.specs.Changes.{changeTo, applied, fifosMoved, movesFifo, Gives}
 use Rattle.change.proofs.Given.{refused-gives}
 use Rattle.fifo.specs.Capture.{arrivalOf}
 use Rattle.fifo.proofs.Arrivals.{not-stored}
 use Rattle.tick.specs.Ticks.{Ticks, storesAny}
 
--- the tick ends within the last second
-abbrev pub inTime : Engine → Bool
-inTime e = ltb (shown (e .clock) + tickStep e) endOfTime
-
 -- the test on numbers that are worked out one after the other
 pub in-time-is : (e : Engine) {amount step : ℕ} {left : Bool} → amount ≡ cycleAmount (e .steering)
-    → step ≡ stepBy (e .clock) amount → left ≡ ltb (shown (e .clock) + step) endOfTime → inTime e ≡ left
+    → step ≡ stepBy (e .clock) amount → left ≡ ltb (shown (e .clock) + step) endOfTime → endsInTime e ≡ left
 in-time-is e a s l = rw (l, s, a) refl
 
 module _ (e : Engine) (c : Command) (v : valid e ≡ true) (o : c .op ≡ 0) where
-  tick-answer : answerOf e c ≡ cond (every (tickFields c)) (cond (inTime e) 0 15) 6
+  tick-answer : answerOf e c ≡ cond (every (tickFields c)) (cond (endsInTime e) 0 15) 6
   unfolding answerOf checks fieldsOk fieldTests
   tick-answer = rw (v, o) refl
 
@@ -39,11 +38,11 @@ module _ (e : Engine) (c : Command) (v : valid e ≡ true) (o : c .op ≡ 0) whe
   fields-refused f = refused-gives e c 6 _ (rw (tick-answer, f) refl) (rw (tick-answer, f) refl)
 
   module _ (f : every (tickFields c) ≡ true) where
-    pub late-refused : inTime e ≡ false → Gives e c (execute e c) (changeTo 15 noWords e false)
+    pub late-refused : endsInTime e ≡ false → Gives e c (execute e c) (changeTo 15 noWords e false)
     unfolding execute
     late-refused t = refused-gives e c 15 _ (rw (tick-answer, f, t) refl) (rw (tick-answer, f, t) refl)
 
-    pub ticks : inTime e ≡ true → Ticks e c
+    pub ticks : endsInTime e ≡ true → Ticks e c
     ticks t = record { passed = tick-answer ∙ rw (f, t) refl; op = o }
 
 -- a test of three parts that fails fails in each

@@ -3,27 +3,30 @@
 use Prim.Native.Nat.{ℕ, _<_, _≤_, _^_}
 use mathlib.Core.Path.{_≡_, refl}
 use mathlib.Core.Bool.{true}
-use native.Mathlib.Omega.{arith}
-use borrow.Author.Tests.{eq-eqb, leb-true}
+use borrow.Author.Tests.{eq-eqb, ltb-true}
 use Rattle.model.specs.declared.Engine.{Engine}
 use Rattle.model.specs.declared.Command.{Command}
 use Rattle.model.specs.declared.Generator.{Generator}
 use Rattle.model.specs.Clock.{shown, cycleAmount, ticked}
+use Rattle.model.specs.Tick.{tickStep}
 use Rattle.model.specs.Ranges.{generatorOk}
 use Rattle.model.specs.Bounds.{ClockIn}
-use Rattle.model.specs.Checks.{tickStep}
 use Rattle.model.proofs.Laws.Ranges.{Valid, valid-parts, clock-in}
 use Rattle.model.proofs.Laws.Clock.{cycle-amount-in, shown-ticked, ticked-ok}
-use Rattle.model.proofs.Laws.Checks.{accepted-facts, tick-fields}
+use Rattle.model.proofs.Laws.Fields.{TickFields, tick-fields}
+use Rattle.model.proofs.Laws.Checks.{Accepted, accepted-facts}
 use Rattle.model.proofs.Laws.Valid.{tick-step-bounds}
 use Rattle.clock.specs.Cycle.{Cycle}
 use Rattle.fifo.specs.Capture.{Capturing}
 use Rattle.generator.specs.Advance.{Ticking}
-use Rattle.tick.specs.Ticks.{Ticks}
+use Rattle.tick.specs.Ticks.{Ticks, Advancing}
 
 module _ (e : Engine) (c : Command) (t : Ticks e c) where
+  facts : Accepted e c
+  facts = accepted-facts e c (t .passed)
+
   parts : Valid e
-  parts = valid-parts e (accepted-facts e c (t .passed) .valid)
+  parts = valid-parts e (facts .valid)
 
   pub clock-within : ClockIn (e .clock)
   clock-within = clock-in (e .clock) (parts .clock)
@@ -35,37 +38,26 @@ module _ (e : Engine) (c : Command) (t : Ticks e c) where
   pub cycle : Cycle (e .clock) (cycleAmount (e .steering)) (tickStep e)
   cycle = record { clock = clock-within; high = amount-low; is = refl; low = tick-step-bounds e parts .1 }
 
-  codes-few : (c .a ≤ 16) × (c .b ≤ 16) × (c .c ≤ 16)
-  codes-few =
-      let f = tick-fields c (t .op) (accepted-facts e c (t .passed) .fields) in
-      omega (arith, leb-true)
-
   -- a generator in range at the time shown may move
   ticking : (g : Generator) → generatorOk g (shown (e .clock)) ≡ true
       → Ticking g (e .clock) (ticked (e .clock) (cycleAmount (e .steering))) (tickStep e)
   ticking g ok = record {
     generator = ok;
     clock = parts .clock;
-    later = ticked-ok (e .clock) _ (accepted-facts e c (t .passed) .check15 (eq-eqb _ _ (t .op)));
+    later = ticked-ok (e .clock) _ (ltb-true _ _ (facts .check15 (eq-eqb _ _ (t .op))));
     apart = shown-ticked (e .clock) (cycleAmount (e .steering));
     low = tick-step-bounds e parts .1;
   }
 
-  pub ticking1 : Ticking (e .generator1) (e .clock) (ticked (e .clock) (cycleAmount (e .steering))) (tickStep e)
-  ticking1 = ticking (e .generator1) (parts .generator1)
-
-  pub ticking2 : Ticking (e .generator2) (e .clock) (ticked (e .clock) (cycleAmount (e .steering))) (tickStep e)
-  ticking2 = ticking (e .generator2) (parts .generator2)
+  pub advancing : Advancing e (ticked (e .clock) (cycleAmount (e .steering))) (tickStep e)
+  advancing = record {
+    generator1 = ticking (e .generator1) (parts .generator1);
+    generator2 = ticking (e .generator2) (parts .generator2);
+  }
 
   -- an input's code may be captured
-  capturing : (code : ℕ) → code ≤ 16 → Capturing (e .clock) (tickStep e) code
+  pub codes-few : TickFields c
+  codes-few = tick-fields c (facts .fields) (t .op)
+
+  pub capturing : (code : ℕ) → code ≤ 16 → Capturing (e .clock) (tickStep e) code
   capturing code few = record { clock = clock-within; low = tick-step-bounds e parts .1; few = few }
-
-  pub capturing1 : Capturing (e .clock) (tickStep e) (c .a)
-  capturing1 = capturing (c .a) (codes-few .0)
-
-  pub capturing2 : Capturing (e .clock) (tickStep e) (c .b)
-  capturing2 = capturing (c .b) (codes-few .1)
-
-  pub capturing3 : Capturing (e .clock) (tickStep e) (c .c)
-  capturing3 = capturing (c .c) (codes-few .2)

@@ -3,88 +3,108 @@
 // "Stamps and generators".
 ghost use mathlib.Core.Path.{_≡_};
 ghost use mathlib.Core.Bool.{true};
-ghost use Rattle.model.specs.Words.{five};
+ghost use Rattle.model.specs.Tick.{tickEngine, tickValues};
 ghost use Rattle.model.specs.Ranges.{valid};
-ghost use Rattle.model.specs.Execute.{tickEngine, tickValues, execute};
+ghost use Rattle.model.specs.Execute.{execute};
 ghost use Rattle.change.specs.Changes.{changeTo, timestampsStored, Gives};
-ghost use Rattle.tick.specs.Ticks.{Ticks, steeringAfter, storesAny};
+ghost use Rattle.tick.specs.Ticks.{Ticks, Advancing, outputsOf, inputsOf, storesAny};
 use change::Change;
 use change::change_to;
-use generator::Advanced;
 use interrupts::latch;
 use interrupts::latch_two;
+use model::Clock;
 use model::Command;
 use model::Engine;
+use model::Generator;
 use model::Interrupts;
-use model::Steering;
 use model::Words;
 use tests::either;
 use words::no_words;
 
-// PERIOD stays, and the adjustment loses a cycle.
-fn spend_cycle(s: Steering) -> Steering
-    ensures { λ r. ⌜ r ≡ steeringAfter s ⌝ }
+// What a tick makes of the two generators: their codes as values, the generators after it, and the latched bits.
+struct Outputs {
+    values: Words,
+    generator1: Generator,
+    generator2: Generator,
+    latched: u64,
+}
+
+// Events are latched in the order of the table of bit positions, each where it arises, so that a part to which nothing
+// happens costs no more than the look at it.
+fn advance_outputs(e: Engine, next: Clock, step: u64, latched: u64) -> Outputs
+    requires { ⌜ Advancing e next step ⌝ }
+    ensures { λ r. ⌜ r ≡ outputsOf e step latched ⌝ }
 {
-    let adjustment = clock::spend(s.adjustment);
-    Steering {
-        period: s.period,
-        adjustment: adjustment,
+    let one = generator::advance(e.generator1, e.clock, next, step);
+    let p1 = latch_two(latched, 1, one.code != 0, one.event, one.sequence);
+    let two = generator::advance(e.generator2, e.clock, next, step);
+    let p2 = latch_two(p1, 3, two.code != 0, two.event, two.sequence);
+    let generator1 = one.generator;
+    let generator2 = two.generator;
+    Outputs {
+        values: Words {
+            w1: one.code,
+            w2: two.code,
+            w3: 0,
+            w4: 0,
+            w5: 0,
+        },
+        generator1: generator1,
+        generator2: generator2,
+        latched: p2,
     }
 }
 
-// The codes of generators 1 and 2 as v1 and v2.
-fn codes(output1: Advanced, output2: Advanced) -> Words
-    ensures { λ r. ⌜ r ≡ five (output1 .code) (output2 .code) 0 0 0 ⌝ }
+// What a tick makes of the three inputs: whether an edge is stored, and the latched bits.
+struct Inputs {
+    stored: bool,
+    latched: u64,
+}
+
+fn arrive_inputs(e: Engine, c: Command, latched: u64) -> Inputs
+    ensures { λ r. ⌜ r ≡ inputsOf e c latched ⌝ }
 {
-    Words {
-        w1: output1.code,
-        w2: output2.code,
-        w3: 0,
-        w4: 0,
-        w5: 0,
+    let one = fifo::arrive(e.fifo1, c.a);
+    let ts1 = latch_two(latched, 5, c.a != 0, one.first, one.overflow);
+    let two = fifo::arrive(e.fifo2, c.b);
+    let ts2 = latch_two(ts1, 7, c.b != 0, two.first, two.overflow);
+    let three = fifo::arrive(e.fifo3, c.c);
+    let ts3 = latch_two(ts2, 9, c.c != 0, three.first, three.overflow);
+    Inputs {
+        stored: either(one.stored, either(two.stored, three.stored)),
+        latched: ts3,
     }
 }
 
-// An accepted tick, from the record before it. Events are latched in the order of the table of bit positions, each
-// where it arises, so that a part to which nothing happens costs no more than the look at it.
+// An accepted tick, from the record before it: steering, then outputs, then inputs.
 fn cycle(e: Engine, c: Command) -> Change
     requires { ⌜ Ticks e c ⌝ }
     ensures { λ r. ⌜ r ≡ changeTo 0 (tickValues e) (tickEngine e c) (storesAny e c) ⌝ }
 {
-    let amount = clock::cycle_amount(e.steering);
-    let step = clock::step_by(e.clock, amount);
-    let next = clock::tick_clock(e.clock, amount, step);
-    let tac = latch(
-        e.interrupts.latched,
-        0,
-        clock::is_last_cycle(e.steering.adjustment),
-    );
-    let output1 = generator::advance(e.generator1, e.clock, next, step);
-    let p1 = latch_two(tac, 1, output1.code != 0, output1.event, output1.sequence);
-    let output2 = generator::advance(e.generator2, e.clock, next, step);
-    let p2 = latch_two(p1, 3, output2.code != 0, output2.event, output2.sequence);
-    let input1 = fifo::arrive(e.fifo1, c.a);
-    let ts1 = latch_two(p2, 5, c.a != 0, input1.first, input1.overflow);
-    let input2 = fifo::arrive(e.fifo2, c.b);
-    let ts2 = latch_two(ts1, 7, c.b != 0, input2.first, input2.overflow);
-    let input3 = fifo::arrive(e.fifo3, c.c);
-    let ts3 = latch_two(ts2, 9, c.c != 0, input3.first, input3.overflow);
-    let generator1 = output1.generator;
-    let generator2 = output2.generator;
+    let steered = clock::steer(e.steering);
+    let step = clock::step_by(e.clock, steered.amount);
+    let next = clock::tick_clock(e.clock, steered.amount, step);
+    let tac = latch(e.interrupts.latched, 0, steered.last);
+    let outputs = advance_outputs(e, next, step, tac);
+    let inputs = arrive_inputs(e, c, outputs.latched);
+    let values = outputs.values;
+    let steering = steered.steering;
+    let generator1 = outputs.generator1;
+    let generator2 = outputs.generator2;
     let words = e.words;
     Change {
         answer: 0,
-        values: codes(output1, output2),
+        values: values,
         clock: next,
-        steering: spend_cycle(e.steering),
+        steering: steering,
         generator1: generator1,
         generator2: generator2,
         interrupts: Interrupts {
-            latched: ts3,
+            latched: inputs.latched,
             enabled: e.interrupts.enabled,
         },
         words: words,
-        moves: either(input1.stored, either(input2.stored, input3.stored)),
+        moves: inputs.stored,
     }
 }
 

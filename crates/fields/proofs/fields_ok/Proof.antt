@@ -1,50 +1,24 @@
--- One arm for each op, and the rest together; an op that has no arm fails all of the definition's tests.
+-- One arm for each row of the table of lists, and one for what is past them.
+use mathlib.Core.Path.{_∙_}
+use native.Mathlib.Omega.{arith}
 use borrow.Author.Needs.{needs}
-use borrow.Author.Tests.{ne-eqb}
-use Rattle.model.specs.Fields.{fieldsOk, fieldTests}
+use Rattle.model.proofs.Laws.Tables.{past-arms}
+use Rattle.model.proofs.Laws.Fields.{fields-of, fields-past}
 use Rattle.fields.proofs.fields_ok.Statement.{statement}
 use Rattle.fields.proofs.fields_ok.Tie as tie
-
-returns : tie.Need-returns
-unfolding fieldsOk fieldTests
-returns c = simp (c .tick-fields .ensures, c .before .match .keys1)
-
-returns-2 : tie.Need-returns-2
-unfolding fieldsOk fieldTests
-returns-2 c = simp (c .load-fields .ensures, c .before .match .keys2)
-
-returns-3 : tie.Need-returns-3
-unfolding fieldsOk fieldTests
-returns-3 c = simp (c .command-fields .ensures, c .before .match .keys3)
-
-returns-4 : tie.Need-returns-4
-unfolding fieldsOk fieldTests
-returns-4 c = simp (c .arm-fields .ensures, c .before .match .keys4)
-
-returns-5 : tie.Need-returns-5
-unfolding fieldsOk fieldTests
-returns-5 c = simp (c .stop-fields .ensures, c .before .match .keys5)
-
-returns-6 : tie.Need-returns-6
-unfolding fieldsOk fieldTests
-returns-6 c = simp (c .mask-fields .ensures, c .before .match .keys6)
-
-returns-7 : tie.Need-returns-7
-unfolding fieldsOk fieldTests
-returns-7 c =
-    let n = c .before .match .rest in
-    simp (
-      c .no-fields .ensures,
-      ne-eqb _ _ (n .0 .0 .0 .0 .0 .1),
-      ne-eqb _ _ (n .0 .0 .0 .0 .1),
-      ne-eqb _ _ (n .0 .0 .0 .1),
-      ne-eqb _ _ (n .0 .0 .1),
-      ne-eqb _ _ (n .0 .1),
-      ne-eqb _ _ (n .1),
-    )
 
 pub fields-ok-spec : {M : Type 1} → statement M
 fields-ok-spec =
     tie.close
-    (tie.spec (search needs) (search needs) (search needs) (search needs) (search needs) (search needs)
-    (search needs) returns returns-2 returns-3 returns-4 returns-5 returns-6 returns-7)
+    (tie.spec (search needs) (search needs) (search needs) (search needs) (search needs) (search needs) (search needs)
+    (search needs) (search needs) (search needs)
+    (λ c. c .tick-fields .ensures ∙ fields-of _ 0 (c .before .match .keys1))
+    (λ c. c .load-fields .ensures ∙ fields-of _ 1 (c .before .match .keys2))
+    (λ c. c .command-fields .ensures ∙ fields-of _ 2 (c .before .match .keys3))
+    (λ c. c .arm-fields .ensures ∙ fields-of _ 3 (c .before .match .keys4))
+    (λ c. c .stop-fields .ensures ∙ fields-of _ 4 (c .before .match .keys5))
+    (λ c. c .no-fields .ensures ∙ fields-of _ 5 (c .before .match .keys6))
+    (λ c. c .mask-fields .ensures ∙ fields-of _ 6 (c .before .match .keys7))
+    (λ c. c .no-fields2 .ensures ∙ fields-of _ 7 (c .before .match .keys8))
+    (λ c. c .no-fields3 .ensures ∙ fields-of _ 8 (c .before .match .keys9))
+    (λ c. c .no-fields4 .ensures ∙ fields-past _ (past-arms 0 9 _ (omega arith) (c .before .match .rest))))

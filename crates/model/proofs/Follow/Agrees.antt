@@ -1,4 +1,4 @@
--- When a record agrees with the ledger and the returned edges. The timestamp FIFOs and the interrupt bits have no
+-- When a record agrees with the ledger. The timestamp FIFOs and the interrupt bits have no
 -- part in it.
 use Prim.Native.Nat.{ℕ, _^_}
 use mathlib.Core.Path.{_≡_}
@@ -15,9 +15,8 @@ use Rattle.model.specs.declared.Words.{Words}
 use Rattle.model.specs.Clock.{shown}
 use Rattle.model.specs.Generator.{isRunning}
 use Rattle.model.specs.Run.{entryOf}
-use Rattle.model.specs.Fractions.{Fraction}
-use Rattle.model.specs.Ledger.{Order, none, standing}
-use Rattle.model.specs.Returned.{Edge, Account, accountTold}
+use Rattle.model.specs.Ledger.{LedgerSteering, Edge, Order, none, standing, Ledger}
+use Rattle.model.specs.Bookings.{told}
 use Rattle.model.proofs.Laws.Clock.{exact}
 use Rattle.model.proofs.Laws.Fractions.{Is}
 use Rattle.model.proofs.Follow.Train.{Standing}
@@ -28,21 +27,21 @@ Follows none edges g now = (edges ≡ []) × (isRunning g ≡ false)
 Follows (standing start interval count) edges g now = Standing start interval count edges g now
 
 -- the steering against PERIOD, the cycles owed and, while some are, PER_ADJ
-pub record Steers (s : Steering) (period adjust : Fraction) (owed : ℕ) : Type 0 where
-  pub periodIs : Is period (s .period) (2 ^ 32)
-  pub owes : owed ≡ s .adjustment .cycles
-  pub adjustIs : eqb (s .adjustment .cycles) 0 ≡ false → Is adjust (s .adjustment .amount) (2 ^ 32)
+pub record Steers (s : Steering) (o : LedgerSteering) : Type 0 where
+  pub periodIs : Is (o .period) (s .period) (2 ^ 32)
+  pub owes : o .owed ≡ s .adjustment .cycles
+  pub adjustIs : eqb (s .adjustment .cycles) 0 ≡ false → Is (o .adjust) (s .adjustment .amount) (2 ^ 32)
 
-pub record AgreesIn (w : Words) (k : Clock) (s : Steering) (g₁ g₂ : Generator) (t : Account) : Type 0 where
-  pub words : t .ledger .words ≡ w
-  pub time : Is (t .ledger .time) (exact k) (2 ^ 32)
-  pub steering : Steers s (t .ledger .period) (t .ledger .adjust) (t .ledger .owed)
-  pub generator1 : Follows (t .ledger .order1) (t .edges1) g₁ (shown k)
-  pub generator2 : Follows (t .ledger .order2) (t .edges2) g₂ (shown k)
+pub record AgreesIn (w : Words) (k : Clock) (s : Steering) (g₁ g₂ : Generator) (l : Ledger) : Type 0 where
+  pub words : l .words ≡ w
+  pub time : Is (l .time) (exact k) (2 ^ 32)
+  pub steering : Steers s (l .steering)
+  pub generator1 : Follows (l .train1 .order) (l .train1 .edges) g₁ (shown k)
+  pub generator2 : Follows (l .train2 .order) (l .train2 .edges) g₂ (shown k)
 
-abbrev pub Agrees : Engine → Account → Type 0
-Agrees e t = AgreesIn (e .words) (e .clock) (e .steering) (e .generator1) (e .generator2) t
+abbrev pub Agrees : Engine → Ledger → Type 0
+Agrees e l = AgreesIn (e .words) (e .clock) (e .steering) (e .generator1) (e .generator2) l
 
--- the account after a command that had an outcome
-abbrev pub after : Account → Command → Outcome → Account
-after t c o = accountTold t (entryOf c o)
+-- the ledger after a command that had an outcome
+abbrev pub after : Ledger → Command → Outcome → Ledger
+after l c o = told l (entryOf c o)

@@ -9,13 +9,13 @@ use Rattle.model.specs.declared.Engine.{Engine}
 use Rattle.model.specs.declared.Command.{Command}
 use Rattle.model.specs.declared.Generator.{Generator}
 use Rattle.model.specs.Clock.{shown, endOfTime}
-use Rattle.model.specs.Ranges.{valid, generatorOk}
 use Rattle.model.specs.Record.{powerOn}
+use Rattle.model.specs.Ranges.{valid, generatorOk}
 use Rattle.model.specs.Execute.{execute}
 use Rattle.model.specs.Run.{engineFrom, historyFrom, engineAfter, entryOf}
 use Rattle.model.specs.Fractions.{over, plus, Same, NotAbove, Below}
-use Rattle.model.specs.Ledger.{Order, none, standing, openLedger}
-use Rattle.model.specs.Returned.{Edge, Account, accountFrom, accountAfter, accountTold}
+use Rattle.model.specs.Ledger.{Edge, Order, none, standing, Ledger, openLedger}
+use Rattle.model.specs.Bookings.{told, ledgerFrom, ledgerAfter}
 use Rattle.model.specs.Instants.{timeShown, timeLeft, EdgesReturned, EdgesLag}
 use Rattle.model.proofs.Laws.Ranges.{Valid, valid-parts, clock-in}
 use Rattle.model.proofs.Laws.Clock.{shown-low}
@@ -26,15 +26,15 @@ use Rattle.model.proofs.Follow.Train.{standing-passed}
 use Rattle.model.proofs.Follow.Agrees.{Agrees, Follows}
 use Rattle.model.proofs.Follow.OnCommand.{execute-agrees}
 
-run-agrees : (cs : List Command) (e : Engine) (t : Account) → valid e ≡ true → Agrees e t
-    → Agrees (engineFrom e cs) (accountFrom t (historyFrom e cs))
-unfolding engineFrom historyFrom accountFrom
-run-agrees [] e t v h = h
-run-agrees (c ∷ cs) e t v h =
-    run-agrees cs (execute e c .engine) (accountTold t (entryOf c (execute e c))) (execute-valid e c v)
-    (execute-agrees e t c v h)
+run-agrees : (cs : List Command) (e : Engine) (l : Ledger) → valid e ≡ true → Agrees e l
+    → Agrees (engineFrom e cs) (ledgerFrom l (historyFrom e cs))
+unfolding engineFrom historyFrom ledgerFrom
+run-agrees [] e l v h = h
+run-agrees (c ∷ cs) e l v h =
+    run-agrees cs (execute e c .engine) (told l (entryOf c (execute e c))) (execute-valid e c v)
+    (execute-agrees e l c v h)
 
-power-on-agrees : Agrees powerOn (record { ledger = openLedger; edges1 = []; edges2 = [] })
+power-on-agrees : Agrees powerOn openLedger
 unfolding powerOn openLedger
 power-on-agrees = record {
   words = refl;
@@ -49,7 +49,7 @@ power-on-agrees = record {
 }
 
 module _ (cs : List Command) where
-  agrees : Agrees (engineAfter cs) (accountAfter cs)
+  agrees : Agrees (engineAfter cs) (ledgerAfter cs)
   agrees = run-agrees cs powerOn _ power-on-valid power-on-agrees
 
   parts : Valid (engineAfter cs)
@@ -65,14 +65,14 @@ module _ (cs : List Command) where
   a-256th-is : Is (over 1 256) 16777216 (2 ^ 32)
   a-256th-is = is-finer 16777216 (omega arith) (is-over 1 256 (omega arith))
 
-  pub exact-time : Same (plus (timeShown (engineAfter cs)) (timeLeft (engineAfter cs))) (accountAfter cs .ledger .time)
+  pub exact-time : Same (plus (timeShown (engineAfter cs)) (timeLeft (engineAfter cs))) (ledgerAfter cs .time)
   exact-time = is-same (is-plus shown-is left-is) (agrees .time)
 
-  pub not-above : NotAbove (timeShown (engineAfter cs)) (accountAfter cs .ledger .time)
+  pub not-above : NotAbove (timeShown (engineAfter cs)) (ledgerAfter cs .time)
   not-above = is-not-above shown-is (agrees .time) (omega arith)
 
   pub less-than-a-256th-below :
-      Below (accountAfter cs .ledger .time) (plus (timeShown (engineAfter cs)) (over 1 256))
+      Below (ledgerAfter cs .time) (plus (timeShown (engineAfter cs)) (over 1 256))
   less-than-a-256th-below =
       is-below (agrees .time) (is-plus shown-is a-256th-is)
       (omega (arith, clock-in (engineAfter cs .clock) (parts .clock) .remainder))
@@ -93,19 +93,19 @@ module _ (cs : List Command) where
   near = shown-low (engineAfter cs .clock) (clock-in (engineAfter cs .clock) (parts cs .clock))
 
   pub edges-returned-1 :
-      EdgesReturned (accountAfter cs .ledger .order1) (accountAfter cs .edges1) (timeShown (engineAfter cs))
+      EdgesReturned (ledgerAfter cs .train1 .order) (ledgerAfter cs .train1 .edges) (timeShown (engineAfter cs))
   edges-returned-1 =
-      follows-returned (accountAfter cs .ledger .order1) (accountAfter cs .edges1) (engineAfter cs .generator1) _
+      follows-returned (ledgerAfter cs .train1 .order) (ledgerAfter cs .train1 .edges) (engineAfter cs .generator1) _
       (agrees cs .generator1) (parts cs .generator1) near
 
   pub edges-returned-2 :
-      EdgesReturned (accountAfter cs .ledger .order2) (accountAfter cs .edges2) (timeShown (engineAfter cs))
+      EdgesReturned (ledgerAfter cs .train2 .order) (ledgerAfter cs .train2 .edges) (timeShown (engineAfter cs))
   edges-returned-2 =
-      follows-returned (accountAfter cs .ledger .order2) (accountAfter cs .edges2) (engineAfter cs .generator2) _
+      follows-returned (ledgerAfter cs .train2 .order) (ledgerAfter cs .train2 .edges) (engineAfter cs .generator2) _
       (agrees cs .generator2) (parts cs .generator2) near
 
-  pub edges-lag-1 : EdgesLag (accountAfter cs .ledger .order1) (accountAfter cs .edges1)
-  edges-lag-1 = follows-lag (accountAfter cs .ledger .order1) _ (engineAfter cs .generator1) _ (agrees cs .generator1)
+  pub edges-lag-1 : EdgesLag (ledgerAfter cs .train1 .order) (ledgerAfter cs .train1 .edges)
+  edges-lag-1 = follows-lag (ledgerAfter cs .train1 .order) _ (engineAfter cs .generator1) _ (agrees cs .generator1)
 
-  pub edges-lag-2 : EdgesLag (accountAfter cs .ledger .order2) (accountAfter cs .edges2)
-  edges-lag-2 = follows-lag (accountAfter cs .ledger .order2) _ (engineAfter cs .generator2) _ (agrees cs .generator2)
+  pub edges-lag-2 : EdgesLag (ledgerAfter cs .train2 .order) (ledgerAfter cs .train2 .edges)
+  edges-lag-2 = follows-lag (ledgerAfter cs .train2 .order) _ (engineAfter cs .generator2) _ (agrees cs .generator2)

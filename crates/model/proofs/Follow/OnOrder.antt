@@ -1,13 +1,13 @@
 -- Accepted ops 3 and 4: a generator and its order are replaced together, and its edges begin anew. A fresh order has
 -- no edge and instant 0 pending; a stopped generator has no order, no edge and is idle.
-use Prim.Native.Nat.{ℕ, _+_, _*_, _<_, _≤_}
-use mathlib.Core.Path.{_≡_, refl, sym, ap, _∙_}
+use Prim.Native.Nat.{ℕ, _+_, _*_, _≤_}
+use mathlib.Core.Path.{_≡_, refl, ap}
 use mathlib.Core.List.{[]}
-use mathlib.Core.Bool.{or-false, Bool, true, false, _||_, not, cond, true≢false}
+use mathlib.Core.Bool.{Bool, true, false, not}
 use native.Mathlib.Omega.{arith}
 use native.Mathlib.Nat.{mul-le-mul-right}
 use lib.Dec.{eqb}
-use borrow.Author.Tests.{eqb-true, leb-true, ne-eqb}
+use borrow.Author.Tests.{ne-eqb}
 use Rattle.model.specs.declared.Engine.{Engine}
 use Rattle.model.specs.declared.Command.{Command}
 use Rattle.model.specs.declared.Generator.{Generator}
@@ -15,44 +15,34 @@ use Rattle.model.specs.Words.{noWords}
 use Rattle.model.specs.Clock.{shown}
 use Rattle.model.specs.Generator.{idleGenerator}
 use Rattle.model.specs.Record.{withGenerator}
-use Rattle.model.specs.Execute.{accepted, armedBy}
-use Rattle.model.specs.Ledger
-use Rattle.model.specs.Ledger.{Order, none}
-use Rattle.model.specs.Returned.{Account, edgesTold}
+use Rattle.model.specs.Outcome.{accepted}
+use Rattle.model.specs.Orders.{armedBy}
+use Rattle.model.specs.Ledger.{Order, none, Ledger, ledgerOrder, orderOf}
+use Rattle.model.specs.Bookings.{booked, told}
 use Rattle.model.proofs.Laws.Fractions.{is-over}
-use Rattle.model.proofs.Laws.Checks.{Accepted, arm-fields, stop-fields}
+use Rattle.model.proofs.Laws.Fields.{ArmFields, arm-fields}
+use Rattle.model.proofs.Laws.Checks.{Accepted}
 use Rattle.model.proofs.Follow.Train.{running}
 use Rattle.model.proofs.Follow.Agrees.{Follows, Agrees, after}
 
-abbrev orderedAccount : Account → Command → Order → Account
-orderedAccount t c o = record {
-  ledger = Ledger.ledgerOrder (t .ledger) (c .a) o;
-  edges1 = cond (eqb (c .a) 1) [] (t .edges1);
-  edges2 = cond (eqb (c .a) 2) [] (t .edges2);
-}
-
-order-agrees : (e : Engine) (t : Account) (c : Command) (g : Generator) (o : Order) → Agrees e t
-    → (eqb (c .a) 1 || eqb (c .a) 2) ≡ true → Follows o [] g (shown (e .clock))
-    → Agrees (withGenerator e (c .a) g) (orderedAccount t c o)
-order-agrees e t c g o h some f = by (eqb (c .a) 1) refl (eqb (c .a) 2) refl
+order-agrees : (e : Engine) (l : Ledger) (n : ℕ) (g : Generator) (o : Order) → Agrees e l
+    → Follows o [] g (shown (e .clock))
+    → Agrees (withGenerator e n g) (ledgerOrder l n o)
+order-agrees e l n g o h f = by (eqb n 1) refl
   where
-    by : (b₁ : Bool) → eqb (c .a) 1 ≡ b₁ → (b₂ : Bool) → eqb (c .a) 2 ≡ b₂
-        → Agrees (withGenerator e (c .a) g) (orderedAccount t c o)
-    by true z₁ true z₂ = absurd (omega (arith, eqb-true))
-    by true z₁ false z₂ = rw (z₁, z₂) (search)
-    by false z₁ true z₂ = rw (z₁, z₂) (search)
-    by false z₁ false z₂ = absurd (true≢false (sym some ∙ rw (z₁, z₂)))
+    by : (b : Bool) → eqb n 1 ≡ b → Agrees (withGenerator e n g) (ledgerOrder l n o)
+    by true z = rw z (search)
+    by false z = rw z (search)
 
-armed-follows : (c : Command) (now : ℕ) → 256 ≤ c .d → 0 < c .f → 0 < c .g
-    → Follows (Ledger.orderOf c) [] (armedBy c) now
-armed-follows c now wide pos some = record {
+armed-follows : (c : Command) (now : ℕ) → ArmFields c → Follows (orderOf c) [] (armedBy c) now
+armed-follows c now f = record {
   s = c .b * 1000000000 + c .c;
   i = c .d * c .f + c .e;
   d = c .f;
   order = record {
     startIs = is-over (c .b * 1000000000 + c .c) 1 (omega arith);
-    intervalIs = record { den = omega arith; unit = pos; value = omega arith };
-    wide = let m : 256 * c .f ≤ c .d * c .f = mul-le-mul-right (c .f) wide in omega arith;
+    intervalIs = record { den = omega arith; unit = f .parts; value = omega arith };
+    wide = let m : 256 * c .f ≤ c .d * c .f = mul-le-mul-right (c .f) (f .wide) in omega arith;
   };
   inOrder = tt;
   lags = tt;
@@ -61,23 +51,16 @@ armed-follows c now wide pos some = record {
 }
 
 -- op 3
-pub arm-agrees : (e : Engine) (t : Account) (c : Command) → Agrees e t → Accepted e c → c .op ≡ 3
+pub arm-agrees : (e : Engine) (l : Ledger) (c : Command) → Agrees e l → Accepted e c → c .op ≡ 3
     → Agrees (withGenerator e (c .a) (armedBy c))
-    (after t c (accepted noWords (withGenerator e (c .a) (armedBy c))))
-unfolding Ledger.told Ledger.booked edgesTold
-arm-agrees e t c h k o =
-    let f = arm-fields c o (k .fields) in
-    let wide = leb-true _ _ (f .1 .1 .1 .0) in
-    let pos = leb-true _ _ (f .1 .1 .1 .1 .1 .1 .0) in
-    let some = leb-true _ _ (f .1 .1 .1 .1 .1 .1 .1 .1 .0) in
-    rw (o, or-false (eqb (c .a) 1), or-false (eqb (c .a) 2))
-    (order-agrees e t c (armedBy c) (Ledger.orderOf c) h (f .0) (armed-follows c _ wide pos some))
+    (after l c (accepted noWords (withGenerator e (c .a) (armedBy c))))
+unfolding told booked
+arm-agrees e l c h k o =
+    rw o (order-agrees e l (c .a) (armedBy c) (orderOf c) h (armed-follows c _ (arm-fields c (k .fields) o)))
 
 -- op 4
-pub stop-agrees : (e : Engine) (t : Account) (c : Command) → Agrees e t → Accepted e c → c .op ≡ 4
+pub stop-agrees : (e : Engine) (l : Ledger) (c : Command) → Agrees e l → c .op ≡ 4
     → Agrees (withGenerator e (c .a) idleGenerator)
-    (after t c (accepted noWords (withGenerator e (c .a) idleGenerator)))
-unfolding Ledger.told Ledger.booked edgesTold
-stop-agrees e t c h k o =
-    rw (o, or-false (eqb (c .a) 1), or-false (eqb (c .a) 2))
-    (order-agrees e t c idleGenerator none h (stop-fields c o (k .fields) .0) (refl, refl))
+    (after l c (accepted noWords (withGenerator e (c .a) idleGenerator)))
+unfolding told booked
+stop-agrees e l c h o = rw o (order-agrees e l (c .a) idleGenerator none h (refl, refl))

@@ -8,18 +8,19 @@ use native.Mathlib.Omega.{arith}
 use native.Mathlib.Nat.{mul-comm, zero-add, add-zero, le-div-iff-mul-le}
 use native.Mathlib.Decide.{ℕ-discrete}
 use lib.ListN.{length, length-append}
-use lib.Dec.{leb}
+use lib.Dec.{eqb, leb}
 use borrow.Author.Tests.{ltb-true, eqb-true, eqb-false, leb-true, ne-eqb}
 use Rattle.model.specs.declared.Generator.{Generator}
 use Rattle.model.specs.Clock.{endOfTime}
-use Rattle.model.specs.Edges.{edgeCode}
+use Rattle.model.specs.Edges.{codeRising, codeEighth, edgeCode}
 use Rattle.model.specs.Generator
 use Rattle.model.specs.Ranges.{generatorOk}
-use Rattle.model.specs.Fractions.{Fraction, over, part}
-use Rattle.model.specs.Ledger.{Ledger, ordered}
-use Rattle.model.specs.Returned.{Edge, edgeIn}
-use Rattle.model.specs.Instants.{ideal, AlternateFrom, Lag, LagsFrom, eighthStart}
 use Rattle.model.specs.Bounds.{RunningIn}
+use Rattle.model.specs.Run.{Entry}
+use Rattle.model.specs.Fractions.{Fraction, over, part}
+use Rattle.model.specs.Ledger.{Edge, Ledger, ordered}
+use Rattle.model.specs.Bookings.{codeFor, edgesIn}
+use Rattle.model.specs.Instants.{ideal, AlternateFrom, Lag, LagsFrom, eighthStart}
 use Rattle.model.proofs.Laws.Ranges.{running-in}
 use Rattle.model.proofs.Laws.Fractions.{Is, is-over, is-finer, is-plus, is-part, is-below}
 use Rattle.model.proofs.Laws.Lag.{eighth-few, not-early, not-late}
@@ -50,12 +51,16 @@ pub record TickIn (a s before left amount : ℕ) (l : Ledger) : Type 0 where
   pub beforeLow : before < 16777216
   pub leftLow : left < 16777216
   pub time : Is (l .time) (a * 16777216 + before) (2 ^ 32)
-  pub ordered : Is (ordered l) amount (2 ^ 32)
+  pub ordered : Is (ordered (l .steering)) amount (2 ^ 32)
 
 -- the edge of an instant e / d in the tick lags it little enough: all in units of 1 / (2^35 d) ns
 module _ {a s before left amount : ℕ} {l : Ledger} (t : TickIn a s before left amount l) where
   abbrev edge : ℕ → ℕ → Edge
-  edge rising eighth = record { rising = rising; eighth = eighth; time = l .time; amount = ordered l }
+  edge rising eighth = record { rising = rising; eighth = eighth; time = l .time; amount = ordered (l .steering) }
+
+  -- the edges that a code tells of
+  abbrev edgesBy : ℕ → List Edge
+  edgesBy code = cond (eqb code 0) [] (edge (codeRising code) (codeEighth code) ∷ [])
 
   starts : (r p d : ℕ) → 0 < d
       → Is (eighthStart (edge r p)) ((a * 16777216 + before) * 8 * d + p * amount * d) (34359738368 * d)
@@ -63,7 +68,7 @@ module _ {a s before left amount : ℕ} {l : Ledger} (t : TickIn a s before left
       is-plus (is-finer d pos (is-finer 8 (omega arith) (t .time)))
       (is-finer d pos (is-part p 8 (omega arith) (t .ordered)))
 
-  an-eighth : (d : ℕ) → 0 < d → Is (part 1 8 (ordered l)) (1 * amount * d) (34359738368 * d)
+  an-eighth : (d : ℕ) → 0 < d → Is (part 1 8 (ordered (l .steering))) (1 * amount * d) (34359738368 * d)
   an-eighth d pos = is-finer d pos (is-part 1 8 (omega arith) (t .ordered))
 
   a-256th : (d : ℕ) → 0 < d → Is (over 1 256) (134217728 * d) (34359738368 * d)
@@ -87,7 +92,7 @@ module _ {a s before left amount : ℕ} {l : Ledger} (t : TickIn a s before left
       }
 
   -- a code's edge, told again
-  edge-in : (direction p : ℕ) → direction ≤ 1 → p < 8 → edgeIn (edgeCode direction p) l ≡ edge (1 - direction) p ∷ []
+  edge-in : (direction p : ℕ) → direction ≤ 1 → p < 8 → edgesBy (edgeCode direction p) ≡ edge (1 - direction) p ∷ []
   edge-in direction p d few =
       let c = code-tells direction p d few in
       rw (c .some, c .rising, c .place)
@@ -167,7 +172,7 @@ module _ {a s before left amount : ℕ} {l : Ledger} (t : TickIn a s before left
   due : Stands (w .s) (w .i) (w .d) count (length edges) g → RunningIn g a → Generator.isRunning g ≡ true
       → Generator.isBefore g (a + s) ≡ true
       → Standing start interval count
-      (edges ++ edgeIn (edgeCode (g .direction) (Generator.eighthOf g a s)) l) (Generator.following g) (a + s)
+      (edges ++ edgesBy t (edgeCode (g .direction) (Generator.eighthOf g a s))) (Generator.following g) (a + s)
   unfolding Generator.following Generator.isBefore Generator.eighthOf
   due (running r e₁ e₂ e₃ e₄ e₅) h y b =
       let reached = ltb-true (Generator.pendingTotal g * 256) ((a + s) * g .denominator) b in
@@ -181,15 +186,15 @@ module _ {a s before left amount : ℕ} {l : Ledger} (t : TickIn a s before left
   due (complete r e) h y b = absurd (true≢false (sym y ∙ r))
   due (expired r m e) h y b = absurd (true≢false (sym y ∙ r))
 
-  -- every tick
-  pub tick-standing : generatorOk g a ≡ true
-      → Standing start interval count (edges ++ edgeIn (Generator.placed g a s) l) (Generator.generated g a s) (a + s)
+  -- every tick, whose code an entry has for the generator
+  pub tick-standing : (n : ℕ) (x : Entry) → codeFor n x ≡ Generator.placed g a s → generatorOk g a ≡ true
+      → Standing start interval count (edges ++ edgesIn n l x) (Generator.generated g a s) (a + s)
   unfolding Generator.placed Generator.generated Generator.isDue
-  tick-standing ok = by (Generator.isRunning g) refl (Generator.isBefore g (a + s)) refl
+  tick-standing n x told ok = rw told (by (Generator.isRunning g) refl (Generator.isBefore g (a + s)) refl)
     where
       by : (r : Bool) → Generator.isRunning g ≡ r → (b : Bool) → Generator.isBefore g (a + s) ≡ b
           → Standing start interval count
-          (edges ++ edgeIn (cond (r && b) (edgeCode (g .direction) (Generator.eighthOf g a s)) 0) l)
+          (edges ++ edgesBy t (cond (r && b) (edgeCode (g .direction) (Generator.eighthOf g a s)) 0))
           (cond (r && b) (Generator.following g) g) (a + s)
       by true r true b = due (w .stands) (running-in g a ok r) r b
       by true r false b = rw append-nil quiet

@@ -14,10 +14,10 @@ use borrow.Author.Tests.{lt-ltb, le-ltb}
 use Rattle.model.specs.declared.Generator.{Generator}
 use Rattle.model.specs.Clock.{endOfTime}
 use Rattle.model.specs.Generator.{isRunning, pendingTotal, intervalTotal}
-use Rattle.model.specs.Fractions.{Fraction, over, isBelow}
-use Rattle.model.specs.Returned.{Edge}
-use Rattle.model.specs.Instants.{ideal, passed, AlternateFrom, EdgesPassed, LagsFrom}
 use Rattle.model.specs.Ranges.{generatorOk}
+use Rattle.model.specs.Fractions.{Fraction, over, isBelow}
+use Rattle.model.specs.Ledger.{Edge}
+use Rattle.model.specs.Instants.{ideal, passed, AlternateFrom, EdgesPassed, LagsFrom}
 use Rattle.model.proofs.Laws.Tests.{count-full, count-first}
 use Rattle.model.proofs.Laws.Ranges.{running-in}
 use Rattle.model.proofs.Laws.Fractions.{Is, is-over, is-finer, is-plus, is-part, is-below-test}

@@ -1,56 +1,58 @@
 -- What an accepted command has passed. The answer is 0 exactly when every check of the table holds, and each check,
 -- where it applies, is then a fact.
-use Prim.Native.Nat.{ℕ, suc, _+_, _*_, _<_, _≤_}
-use mathlib.Core.Path.{_≡_, refl, sym, _∙_}
+use Prim.Native.Nat.{ℕ, _+_, _*_, _-_, _<_, _≤_}
+use mathlib.Core.Path.{_≡_, refl, sym, ap, _∙_}
 use mathlib.Core.Bool.{true, false, _||_, not, Bool, _&&_, and-false}
 use native.Mathlib.Omega.{arith}
 use lib.Dec.{eqb, leb}
+use lib.ListN.{length, getD}
 use borrow.Author.Tests.{ltb-true, leb-true, eqb-true, eqb-false, eq-eqb, ne-eqb}
 use Rattle.model.specs.declared.Engine.{Engine}
 use Rattle.model.specs.declared.Command.{Command}
 use Rattle.model.specs.declared.Outcome.{Outcome}
 use Rattle.model.specs.Words
-use Rattle.model.specs.Clock.{shown, endOfTime}
+use Rattle.model.specs.Clock.{shown}
 use Rattle.model.specs.Fifo.{isEmpty}
 use Rattle.model.specs.Generator.{isRunning, idleGenerator}
 use Rattle.model.specs.Record
+use Rattle.model.specs.Outcome.{refused, accepted}
+use Rattle.model.specs.Tick
+use Rattle.model.specs.Orders
+use Rattle.model.specs.Ops
 use Rattle.model.specs.Ranges.{valid}
 use Rattle.model.specs.Fields
 use Rattle.model.specs.Checks
-use Rattle.model.specs.Execute
-use Rattle.model.proofs.Laws.Tests.{split, both, asked, facts, Every, Numbered, answer-none}
+use Rattle.model.specs.Execute.{execute}
+use Rattle.model.proofs.Laws.Tests.{split, both, asked, Numbered, answer-none}
+use Rattle.model.proofs.Laws.Tables.{by-row}
 
--- the twelve checks are numbered 4 to 15
+-- the checks are numbered 4, 5, .. in the order of the table
 pub numbered : (e : Engine) (c : Command) → Numbered 4 (Checks.checks e c)
 unfolding Checks.checks
-numbered e c =
-    (refl, (refl, (refl, (refl, (refl, (refl, (refl, (refl, (refl, (refl, (refl, (refl, tt))))))))))))
+numbered e c = omega arith
 
 -- the facts of an accepted command
 pub record Accepted (e : Engine) (c : Command) : Type 0 where
   pub valid : valid e ≡ true
-  pub op : c .op ≤ 8
+  pub op : c .op < length Ops.ops
   pub fields : Fields.fieldsOk c ≡ true
   pub check7 : Checks.readsFifo c ≡ true → not (isEmpty (Record.fifo e (c .b))) ≡ true
-  pub check8 : Checks.writes c 0 ≡ true
+  pub check8 : Checks.writes 0 c ≡ true
       → (Words.nanosecondsIn (e .words) ≤ 999999999) × (Words.aboveNanoseconds (e .words) ≡ 0)
-  pub check9 : (Checks.writes c 1 || Checks.writes c 2) ≡ true → 1 ≤ Words.wholeIn (e .words)
-  pub check9byte : Checks.writes c 1 ≡ true → Words.belowFrac (e .words) ≡ 0
-  pub check10 : Checks.writes c 2 ≡ true → 1 ≤ Words.countIn (e .words)
-  pub check11 : Checks.writes c 2 ≡ true → e .steering .adjustment .cycles ≡ 0
-  pub check12 : Checks.isOp c 3 ≡ true → c .e < c .f
-  pub check13 : Checks.isOp c 3 ≡ true → not (isRunning (Record.generator e (c .a))) ≡ true
-  pub check14 : Checks.isOp c 3 ≡ true → shown (e .clock) ≤ (c .b * 1000000000 + c .c) * 256
-  pub check15 : Checks.isOp c 0 ≡ true → shown (e .clock) + Checks.tickStep e < endOfTime
-
-few-ops : (c : Command) → Checks.isKnown c ≡ true → c .op ≤ 8
-few-ops c h = omega (arith, leb-true)
+  pub check9 : Checks.writesAmount c ≡ true → 1 ≤ Words.wholeIn (e .words)
+  pub check9byte : Checks.writes 1 c ≡ true → Words.belowFrac (e .words) ≡ 0
+  pub check10 : Checks.writes 2 c ≡ true → 1 ≤ Words.countIn (e .words)
+  pub check11 : Checks.writes 2 c ≡ true → e .steering .adjustment .cycles ≡ 0
+  pub check12 : Checks.isOp 3 c ≡ true → c .e < c .f
+  pub check13 : Checks.isOp 3 c ≡ true → not (isRunning (Record.generator e (c .a))) ≡ true
+  pub check14 : Checks.isOp 3 c ≡ true → shown (e .clock) ≤ (c .b * 1000000000 + c .c) * 256
+  pub check15 : Checks.isOp 0 c ≡ true → Tick.endsInTime e ≡ true
 
 -- a PERIOD write is no adjust write, so that check 9 asks for its byte too
-only-period : (c : Command) → Checks.writes c 1 ≡ true → Checks.writes c 2 ≡ false
+only-period : (c : Command) → Checks.writes 1 c ≡ true → Checks.writes 2 c ≡ false
 only-period c h =
-    let one = both (Checks.isOp c 2) (eqb (c .a) 1) h .1 in
-    rw (ne-eqb (c .a) 2 (λ z. omega (arith, eqb-true))) (and-false (Checks.isOp c 2))
+    let one = both (Checks.isOp 2 c) (eqb (c .a) 1) h .1 in
+    rw (ne-eqb (c .a) 2 (λ z. omega (arith, eqb-true))) (and-false (Checks.isOp 2 c))
 
 byte-asked : (period adjust whole byte : Bool) → (not (period || adjust) || (whole && (adjust || byte))) ≡ true
     → period ≡ true → adjust ≡ false → byte ≡ true
@@ -62,70 +64,76 @@ byte-asked false adjust whole byte h p a = cc
 pub accepted-facts : (e : Engine) (c : Command) → Checks.answerOf e c ≡ 0 → Accepted e c
 unfolding Checks.answerOf Checks.checks
 accepted-facts e c h =
-    let f = answer-none 3 (Checks.checks e c) (numbered e c) h in
+    let passed : (n : ℕ) → Checks.passes e c n ≡ true =
+    λ n. answer-none 3 (Checks.checks e c) (numbered e c) h (n - 4)
+    in
     record {
-      valid = f 0;
-      op = few-ops c (f 1);
-      fields = f 2;
-      check7 = asked _ _ (f 3);
-      check8 = λ a. let p = both _ _ (asked _ _ (f 4) a) in (leb-true _ _ (p .0), eqb-true _ _ (p .1));
-      check9 = λ a. leb-true _ _ (both _ _ (asked _ _ (f 5) a) .0);
-      check9byte = λ a. eqb-true _ _ (byte-asked _ _ (leb 1 (Words.wholeIn (e .words))) _ (f 5) a (only-period c a));
-      check10 = λ a. leb-true _ _ (asked _ _ (f 6) a);
-      check11 = λ a. eqb-true _ _ (asked _ _ (f 7) a);
-      check12 = λ a. ltb-true _ _ (asked _ _ (f 8) a);
-      check13 = asked _ _ (f 9);
-      check14 = λ a. leb-true _ _ (asked _ _ (f 10) a);
-      check15 = λ a. ltb-true _ _ (asked _ _ (f 11) a);
+      valid = passed 4;
+      op = ltb-true _ _ (passed 5);
+      fields = passed 6;
+      check7 = asked _ _ (passed 7);
+      check8 = λ a. let p = both _ _ (asked _ _ (passed 8) a) in (leb-true _ _ (p .0), eqb-true _ _ (p .1));
+      check9 = λ a. leb-true _ _ (both _ _ (asked _ _ (passed 9) a) .0);
+      check9byte = λ a.
+          eqb-true _ _ (byte-asked _ _ (leb 1 (Words.wholeIn (e .words))) _ (passed 9) a (only-period c a));
+      check10 = λ a. leb-true _ _ (asked _ _ (passed 10) a);
+      check11 = λ a. eqb-true _ _ (asked _ _ (passed 11) a);
+      check12 = λ a. ltb-true _ _ (asked _ _ (passed 12) a);
+      check13 = asked _ _ (passed 13);
+      check14 = λ a. leb-true _ _ (asked _ _ (passed 14) a);
+      check15 = asked _ _ (passed 15);
     }
 
 -- an outcome by the answer: a refusal with the number of the first failed check, or the op performed
 pub by-answer : (P : Outcome → Type 0) (e : Engine) (c : Command)
-    → ((Checks.answerOf e c ≡ 0 → ⊥) → P (Execute.refused e (Checks.answerOf e c)))
-    → (Accepted e c → P (Execute.performed e c))
-    → P (Execute.execute e c)
-unfolding Execute.execute
+    → ((Checks.answerOf e c ≡ 0 → ⊥) → P (refused e (Checks.answerOf e c)))
+    → (Accepted e c → P (Ops.performed e c))
+    → P (execute e c)
+unfolding execute
 by-answer P e c f g =
     split P (eqb (Checks.answerOf e c) 0)
     (λ z. g (accepted-facts e c (eqb-true _ _ z)))
     (λ z. f (eqb-false _ _ z))
 
--- a performed command by its op
+-- a performed command is its op's row, and by its op
+pub performed-row : (e : Engine) (c : Command) (n : ℕ) → c .op ≡ n
+    → Ops.performed e c ≡ getD Ops.ops n Ops.unknown e c
+unfolding Ops.performed
+performed-row e c n o = ap (λ (k : ℕ). getD Ops.ops k Ops.unknown e c) o
+
 pub record ByOp (P : Outcome → Type 0) (e : Engine) (c : Command) : Type 0 where
-  pub tick : c .op ≡ 0 → P (Execute.accepted (Execute.tickValues e) (Execute.tickEngine e c))
-  pub load : c .op ≡ 1 → P (Execute.accepted Words.noWords (Record.withWords e (Execute.loadedWords c)))
-  pub command : c .op ≡ 2 → P (Execute.commanded e (c .a) (c .b))
-  pub arm : c .op ≡ 3 → P (Execute.accepted Words.noWords (Record.withGenerator e (c .a) (Execute.armedBy c)))
-  pub stop : c .op ≡ 4 → P (Execute.accepted Words.noWords (Record.withGenerator e (c .a) idleGenerator))
-  pub interrupts : c .op ≡ 5 → P (Execute.interruptsRead e)
-  pub mask : c .op ≡ 6 → P (Execute.accepted Words.noWords (Execute.maskSet e (c .a)))
-  pub status : c .op ≡ 7 → P (Execute.accepted (Execute.justFirst (Execute.statusOf e)) e)
-  pub show : c .op ≡ 8 → P (Execute.accepted (e .words) e)
+  pub tick : c .op ≡ 0 → P (accepted (Tick.tickValues e) (Tick.tickEngine e c))
+  pub load : c .op ≡ 1 → P (accepted Words.noWords (Record.withWords e (Orders.loadedWords c)))
+  pub command : c .op ≡ 2 → P (Orders.commanded e (c .a) (c .b))
+  pub arm : c .op ≡ 3 → P (accepted Words.noWords (Record.withGenerator e (c .a) (Orders.armedBy c)))
+  pub stop : c .op ≡ 4 → P (accepted Words.noWords (Record.withGenerator e (c .a) idleGenerator))
+  pub interrupts : c .op ≡ 5 → P (Orders.interruptsRead e)
+  pub mask : c .op ≡ 6 → P (accepted Words.noWords (Orders.maskSet e (c .a)))
+  pub status : c .op ≡ 7 → P (accepted (Orders.justFirst (Orders.statusOf e)) e)
+  pub show : c .op ≡ 8 → P (accepted (e .words) e)
 
-pub by-op : (P : Outcome → Type 0) (e : Engine) (c : Command) → c .op ≤ 8 → ByOp P e c → P (Execute.performed e c)
-unfolding Execute.performed
+pub by-op : (P : Outcome → Type 0) (e : Engine) (c : Command) → c .op < length Ops.ops → ByOp P e c
+    → P (Ops.performed e c)
+unfolding Ops.performed
 by-op P e c few by =
-    split P (eqb (c .op) 0) (λ y. by .tick (eqb-true _ _ y)) (λ n0.
-    split P (eqb (c .op) 1) (λ y. by .load (eqb-true _ _ y)) (λ n1.
-    split P (eqb (c .op) 2) (λ y. by .command (eqb-true _ _ y)) (λ n2.
-    split P (eqb (c .op) 3) (λ y. by .arm (eqb-true _ _ y)) (λ n3.
-    split P (eqb (c .op) 4) (λ y. by .stop (eqb-true _ _ y)) (λ n4.
-    split P (eqb (c .op) 5) (λ y. by .interrupts (eqb-true _ _ y)) (λ n5.
-    split P (eqb (c .op) 6) (λ y. by .mask (eqb-true _ _ y)) (λ n6.
-    split P (eqb (c .op) 7) (λ y. by .status (eqb-true _ _ y)) (λ n7.
-    by .show (last (c .op) few n0 n1 n2 n3 n4 n5 n6 n7)))))))))
-  where
-    last : (n : ℕ) → n ≤ 8 → eqb n 0 ≡ false → eqb n 1 ≡ false → eqb n 2 ≡ false → eqb n 3 ≡ false → eqb n 4 ≡ false
-        → eqb n 5 ≡ false → eqb n 6 ≡ false → eqb n 7 ≡ false → n ≡ 8
-    last n few n0 n1 n2 n3 n4 n5 n6 n7 =
-        let h = up 7 n7 (up 6 n6 (up 5 n5 (up 4 n4 (up 3 n3 (up 2 n2 (up 1 n1 (up 0 n0 (omega arith)))))))) in
-        omega arith
-      where
-        up : (k : ℕ) → eqb n k ≡ false → k ≤ n → suc k ≤ n
-        up k e l = let z = eqb-false n k e in omega arith
+    by-row (λ n op. c .op ≡ n → P (op e c)) Ops.ops (c .op) Ops.unknown
+    (search) (λ n past o. absurd (omega arith)) refl
 
-performed-answer : (e : Engine) (c : Command) → c .op ≤ 8 → Execute.performed e c .answer ≡ 0
-unfolding Execute.commanded Execute.interruptsRead
+-- what a write leaves, by its selector
+pub record ByWrite (P : Engine → Type 0) (e : Engine) (selector : ℕ) : Type 0 where
+  pub time : selector ≡ 0 → P (Orders.timeWritten e)
+  pub period : selector ≡ 1 → P (Orders.periodWritten e)
+  pub adjust : selector ≡ 2 → P (Orders.adjustWritten e)
+  pub none : 3 ≤ selector → P e
+
+pub by-write : (P : Engine → Type 0) (e : Engine) (selector : ℕ) → ByWrite P e selector → P (Orders.written e selector)
+unfolding Orders.written
+by-write P e selector by =
+    by-row (λ n write. selector ≡ n → P (write e)) Orders.writings selector (λ e. e)
+    (search) (λ n past o. by .none (omega arith)) refl
+
+performed-answer : (e : Engine) (c : Command) → c .op < length Ops.ops → Ops.performed e c .answer ≡ 0
+unfolding Orders.commanded Orders.interruptsRead
 performed-answer e c few =
     by-op (λ (x : Outcome). x .answer ≡ 0) e c few
     (record {
@@ -141,48 +149,23 @@ performed-answer e c few =
     })
 
 -- the answer of an outcome is the number of the first failed check
-pub execute-answer : (e : Engine) (c : Command) → Execute.execute e c .answer ≡ Checks.answerOf e c
-unfolding Execute.execute
+pub execute-answer : (e : Engine) (c : Command) → execute e c .answer ≡ Checks.answerOf e c
+unfolding execute
 execute-answer e c =
     split (λ (x : Outcome). x .answer ≡ Checks.answerOf e c) (eqb (Checks.answerOf e c) 0)
     (λ z. let h = eqb-true _ _ z in performed-answer e c (accepted-facts e c h .op) ∙ sym h)
     (λ z. refl)
 
-pub execute-refused : (e : Engine) (c : Command) → (Execute.execute e c .answer ≡ 0 → ⊥)
-    → Execute.execute e c ≡ Execute.refused e (Execute.execute e c .answer)
-unfolding Execute.execute
+pub execute-refused : (e : Engine) (c : Command) → (execute e c .answer ≡ 0 → ⊥)
+    → execute e c ≡ refused e (execute e c .answer)
+unfolding execute
 execute-refused e c n =
     let z : Checks.answerOf e c ≡ 0 → ⊥ = λ h. n (execute-answer e c ∙ h) in
     rw (ne-eqb (Checks.answerOf e c) 0 z)
 
-pub execute-accepted : (e : Engine) (c : Command) → Execute.execute e c .answer ≡ 0
-    → Accepted e c × (Execute.execute e c ≡ Execute.performed e c)
-unfolding Execute.execute
+pub execute-accepted : (e : Engine) (c : Command) → execute e c .answer ≡ 0
+    → Accepted e c × (execute e c ≡ Ops.performed e c)
+unfolding execute
 execute-accepted e c h =
     let z = sym (execute-answer e c) ∙ h in
     (accepted-facts e c z, rw (eq-eqb (Checks.answerOf e c) 0 z))
-
--- the field list of each op
-pub tick-fields : (c : Command) → c .op ≡ 0 → Fields.fieldsOk c ≡ true → Every (Fields.tickFields c)
-unfolding Fields.fieldsOk Fields.fieldTests
-tick-fields c o h = facts (Fields.tickFields c) (rw o at h)
-
-pub load-fields : (c : Command) → c .op ≡ 1 → Fields.fieldsOk c ≡ true → Every (Fields.loadFields c)
-unfolding Fields.fieldsOk Fields.fieldTests
-load-fields c o h = facts (Fields.loadFields c) (rw o at h)
-
-pub command-fields : (c : Command) → c .op ≡ 2 → Fields.fieldsOk c ≡ true → Every (Fields.commandFields c)
-unfolding Fields.fieldsOk Fields.fieldTests
-command-fields c o h = facts (Fields.commandFields c) (rw o at h)
-
-pub arm-fields : (c : Command) → c .op ≡ 3 → Fields.fieldsOk c ≡ true → Every (Fields.armFields c)
-unfolding Fields.fieldsOk Fields.fieldTests
-arm-fields c o h = facts (Fields.armFields c) (rw o at h)
-
-pub stop-fields : (c : Command) → c .op ≡ 4 → Fields.fieldsOk c ≡ true → Every (Fields.stopFields c)
-unfolding Fields.fieldsOk Fields.fieldTests
-stop-fields c o h = facts (Fields.stopFields c) (rw o at h)
-
-pub mask-fields : (c : Command) → c .op ≡ 6 → Fields.fieldsOk c ≡ true → Every (Fields.maskFields c)
-unfolding Fields.fieldsOk Fields.fieldTests
-mask-fields c o h = facts (Fields.maskFields c) (rw o at h)

@@ -10,12 +10,11 @@ use Rattle.model.specs.declared.Clock.{Clock}
 use Rattle.model.specs.declared.Adjustment.{Adjustment}
 use Rattle.model.specs.declared.Steering.{Steering}
 use Rattle.model.specs.Clock.{shown, endOfTime, clockAt, cycleAmount, stepBy, remainderBy, ticked, isOver}
-use Rattle.model.specs.Clock.{spent}
-use Rattle.model.specs.Clock.{noAdjustment}
+use Rattle.model.specs.Clock.{noAdjustment, spent, steeringAfter}
 use Rattle.model.specs.Ranges.{clockOk, steeringOk, adjustmentOk}
 use Rattle.model.proofs.Laws.Tests.{split}
 use Rattle.model.specs.Bounds.{ClockIn, AmountIn}
-use Rattle.model.proofs.Laws.Ranges.{clock-ok, steering-in, adjustment-in, adjustment-ok}
+use Rattle.model.proofs.Laws.Ranges.{clock-ok, steering-in, steering-ok, adjustment-in, adjustment-ok}
 
 -- the exact time of a clock, remainder included, in 2^-32 ns
 abbrev pub exact : Clock → ℕ
@@ -68,7 +67,7 @@ no-adjustment-ok : adjustmentOk noAdjustment ≡ true
 unfolding adjustmentOk
 no-adjustment-ok = refl
 
-pub spent-ok : (j : Adjustment) → adjustmentOk j ≡ true → adjustmentOk (spent j) ≡ true
+spent-ok : (j : Adjustment) → adjustmentOk j ≡ true → adjustmentOk (spent j) ≡ true
 unfolding spent
 spent-ok j h = split (λ (x : Adjustment). adjustmentOk x ≡ true) (isOver j) (λ e. no-adjustment-ok) one-less
   where
@@ -77,3 +76,8 @@ spent-ok j h = split (λ (x : Adjustment). adjustmentOk x ≡ true) (isOver j) (
         let a = adjustment-in j h (ne-eqb (j .cycles) 0 (λ z. omega (arith, leb-false))) in
         adjustment-ok _
         (record { amount = a .amount; some = omega (arith, leb-false); cycles = omega (arith, a .cycles) })
+
+-- the steering after a cycle is in range
+pub steering-after-ok : (s : Steering) → steeringOk s ≡ true → steeringOk (steeringAfter s) ≡ true
+unfolding steeringAfter
+steering-after-ok s h = let f = steering-in s h in steering-ok _ (f .0) (spent-ok (s .adjustment) (f .1))

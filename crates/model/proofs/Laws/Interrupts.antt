@@ -18,8 +18,9 @@ use Rattle.model.specs.Edges.{edgeCode}
 use Rattle.model.specs.Fifo.{capturesFirst, overflows}
 use Rattle.model.specs.Generator.{isDue, eighthOf, placed, completesEvent, completesSequence}
 use Rattle.model.specs.Interrupts
+use Rattle.model.specs.Tick.{tickEvents, tickEngine, tickValues}
+use Rattle.model.specs.Orders.{interruptsRead, statusOf}
 use Rattle.model.specs.Ranges.{valid}
-use Rattle.model.specs.Execute.{tickEvents, tickEngine, tickValues, interruptsRead, statusOf}
 use Rattle.model.proofs.Laws.Tests.{split, both, or-right, below-all}
 use Rattle.model.proofs.Laws.Ranges.{valid-parts}
 use Rattle.model.proofs.Laws.Bits.{bit-with-same, bit-with-other, with-bit-lt, only-bits-lt, only-bits-le}

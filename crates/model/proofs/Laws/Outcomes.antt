@@ -10,10 +10,12 @@ use Rattle.model.specs.declared.Engine.{Engine}
 use Rattle.model.specs.declared.Command.{Command}
 use Rattle.model.specs.declared.Outcome.{Outcome}
 use Rattle.model.specs.Words.{secondsIn, nanosecondsIn, timeWords}
-use Rattle.model.specs.Ranges.{valid}
 use Rattle.model.specs.Record.{powerOn}
-use Rattle.model.specs.Checks.{checks, answerOf, passes, Cause}
-use Rattle.model.specs.Execute.{execute, performed, commanded, written, readWords, readEngine}
+use Rattle.model.specs.Orders.{commanded, written, readWords, readEngine}
+use Rattle.model.specs.Ops.{performed}
+use Rattle.model.specs.Ranges.{valid}
+use Rattle.model.specs.Checks.{lastNumber, checks, answerOf, passes, Cause}
+use Rattle.model.specs.Execute.{execute}
 use Rattle.model.specs.Run.{engineFrom, engineAfter}
 use Rattle.model.proofs.Laws.Tests.{both-true, fails-answer, answer-fails, answer-none, none-answer}
 use Rattle.model.proofs.Laws.Tests.{answer-least, answer-most}
@@ -41,17 +43,17 @@ module _ (e : Engine) (c : Command) where
       (λ j l. rw (back j) at (k .above (j + 4) (omega arith) (omega arith)))
       ∙ omega arith
 
-  pub accepted-passes : execute e c .answer ≡ 0 → (n : ℕ) → 4 ≤ n → n ≤ 15 → passes e c n ≡ true
+  pub accepted-passes : execute e c .answer ≡ 0 → (n : ℕ) → 4 ≤ n → n ≤ lastNumber → passes e c n ≡ true
   unfolding answerOf
   accepted-passes h n low high = answer-none 3 (checks e c) (numbered e c) (sym (execute-answer e c) ∙ h) (n - 4)
 
-  pub passes-accepted : ((n : ℕ) → 4 ≤ n → n ≤ 15 → passes e c n ≡ true) → execute e c .answer ≡ 0
+  pub passes-accepted : ((n : ℕ) → 4 ≤ n → n ≤ lastNumber → passes e c n ≡ true) → execute e c .answer ≡ 0
   unfolding answerOf checks
   passes-accepted k =
       execute-answer e c
       ∙ none-answer (checks e c) (λ i l. rw (back i) at (k (i + 4) (omega arith) (omega arith)))
 
-  pub answer-bounds : (execute e c .answer ≡ 0 → ⊥) → (4 ≤ execute e c .answer) × (execute e c .answer ≤ 15)
+  pub answer-bounds : (execute e c .answer ≡ 0 → ⊥) → (4 ≤ execute e c .answer) × (execute e c .answer ≤ lastNumber)
   unfolding answerOf checks
   answer-bounds n =
       let most = answer-most 3 (checks e c) (numbered e c) in

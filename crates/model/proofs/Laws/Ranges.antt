@@ -12,9 +12,9 @@ use Rattle.model.specs.declared.Steering.{Steering}
 use Rattle.model.specs.declared.Generator.{Generator}
 use Rattle.model.specs.declared.Words.{Words}
 use Rattle.model.specs.declared.Engine.{Engine}
+use Rattle.model.specs.Tests.{every}
 use Rattle.model.specs.Clock.{shown, noAdjustment}
 use Rattle.model.specs.Generator.{isRunning, isBefore, idleGenerator}
-use Rattle.model.specs.Tests.{every}
 use Rattle.model.specs.Ranges
 use Rattle.model.specs.Bounds.{ClockIn, AmountIn, AdjustmentIn, RunningIn, WordsIn}
 use Rattle.model.proofs.Laws.Tests.{facts, all-of, both, both-true}
@@ -88,27 +88,31 @@ running-ok g now h =
     rw r (both-true (every (Ranges.runningTests g)) (not (isBefore g now)) t (omega (arith, not-ltb)))
 
 -- an idle generator is all zeros
+record Zeros (g : Generator) : Type 0 where
+  seconds : g .pending .seconds ≡ 0
+  nanoseconds : g .pending .nanoseconds ≡ 0
+  remainder : g .pending .remainder ≡ 0
+  whole : g .whole ≡ 0
+  numerator : g .numerator ≡ 0
+  denominator : g .denominator ≡ 0
+  left : g .left ≡ 0
+  direction : g .direction ≡ 0
+  mark : g .mark ≡ 0
+
 pub idle-in : (g : Generator) (now : ℕ) → Ranges.generatorOk g now ≡ true → isRunning g ≡ false → g ≡ idleGenerator
 unfolding Ranges.generatorOk
 idle-in g now h r =
     let f = facts (Ranges.idleTests g) (rw r at h) in
-    let left = eqb-true (g .left) 0 (not-false (eqb (g .left) 0) r) in
-    let s = eqb-true _ _ (f .0) in
-    let n = eqb-true _ _ (f .1 .0) in
-    let m = eqb-true _ _ (f .1 .1 .0) in
-    let whole = eqb-true _ _ (f .1 .1 .1 .0) in
-    let num = eqb-true _ _ (f .1 .1 .1 .1 .0) in
-    let den = eqb-true _ _ (f .1 .1 .1 .1 .1 .0) in
-    let direction = eqb-true _ _ (f .1 .1 .1 .1 .1 .1 .0) in
-    let mark = eqb-true _ _ (f .1 .1 .1 .1 .1 .1 .1 .0) in
+    let none = eqb-true (g .left) 0 (not-false (eqb (g .left) 0) r) in
+    let z : Zeros g = omega (arith, eqb-true) in
     λ i. record {
-      pending = record { seconds = s i; nanoseconds = n i; remainder = m i };
-      whole = whole i;
-      numerator = num i;
-      denominator = den i;
-      left = left i;
-      direction = direction i;
-      mark = mark i;
+      pending = record { seconds = z .seconds i; nanoseconds = z .nanoseconds i; remainder = z .remainder i };
+      whole = z .whole i;
+      numerator = z .numerator i;
+      denominator = z .denominator i;
+      left = z .left i;
+      direction = z .direction i;
+      mark = z .mark i;
     }
 
 -- and in range at every time

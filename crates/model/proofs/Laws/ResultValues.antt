@@ -1,6 +1,6 @@
 -- The values of an outcome are 16-bit words. A tick returns codes of at most 16, a read the words that it leaves in
 -- the record, which is valid again, op 8 the record's words, and the interrupt and status words have bits below 15;
--- every other value is 0. An answer is the number of a check, at most 15.
+-- every other value is 0. An answer is the number of a check.
 use Prim.Native.Nat.{ℕ, _+_, _*_, _<_, _≤_}
 use mathlib.Core.Path.{_≡_}
 use mathlib.Core.Bool.{true}
@@ -15,10 +15,13 @@ use Rattle.model.specs.declared.Generator.{Generator}
 use Rattle.model.specs.Words.{noWords}
 use Rattle.model.specs.Edges.{edgeCode}
 use Rattle.model.specs.Generator.{placed, isDue, isRunning, isBefore, eighthOf, pendingTotal}
+use Rattle.model.specs.Tick.{tickStep, tickValues}
+use Rattle.model.specs.Orders
+use Rattle.model.specs.Ops.{performed}
 use Rattle.model.specs.Ranges.{valid, generatorOk}
 use Rattle.model.specs.Bounds.{WordsIn}
-use Rattle.model.specs.Checks.{tickStep}
-use Rattle.model.specs.Execute
+use Rattle.model.specs.Checks.{lastNumber}
+use Rattle.model.specs.Execute.{execute}
 use Rattle.model.proofs.Laws.Tests.{split, both}
 use Rattle.model.proofs.Laws.Ranges.{Valid, valid-parts, running-in, words-in}
 use Rattle.model.proofs.Laws.Checks.{Accepted, by-answer, by-op}
@@ -51,8 +54,8 @@ placed-low g a s some ok =
 pub no-words-in : WordsIn noWords
 no-words-in = omega arith
 
-tick-values-in : (e : Engine) → Valid e → WordsIn (Execute.tickValues e)
-unfolding Execute.tickValues
+tick-values-in : (e : Engine) → Valid e → WordsIn (tickValues e)
+unfolding tickValues
 tick-values-in e v =
     let some : 0 < tickStep e = omega (arith, tick-step-bounds e v .0) in
     let p = placed-low (e .generator1) _ _ some (v .generator1) in
@@ -60,19 +63,19 @@ tick-values-in e v =
     omega arith
 
 -- the values of a read are the words of the record after it
-commanded-values-in : (e : Engine) (write read : ℕ) → Valid (Execute.commanded e write read .engine)
-    → WordsIn (Execute.commanded e write read .values)
-unfolding Execute.commanded Execute.readEngine
+commanded-values-in : (e : Engine) (write read : ℕ) → Valid (Orders.commanded e write read .engine)
+    → WordsIn (Orders.commanded e write read .values)
+unfolding Orders.commanded Orders.readEngine
 commanded-values-in e write read =
     split (λ (x : Outcome). Valid (x .engine) → WordsIn (x .values)) (eqb read 8)
     (λ y v. no-words-in)
     (λ y v. words-in _ (v .words))
 
-interrupt-values-in : (e : Engine) → valid e ≡ true → WordsIn (Execute.interruptsRead e .values)
-unfolding Execute.interruptsRead
+interrupt-values-in : (e : Engine) → valid e ≡ true → WordsIn (Orders.interruptsRead e .values)
+unfolding Orders.interruptsRead
 interrupt-values-in e h = let low = interrupts-read e h .others in omega arith
 
-performed-values-in : (e : Engine) (c : Command) → Accepted e c → WordsIn (Execute.performed e c .values)
+performed-values-in : (e : Engine) (c : Command) → Accepted e c → WordsIn (performed e c .values)
 performed-values-in e c k =
     let v = valid-parts e (k .valid) in
     by-op (λ (x : Outcome). Valid (x .engine) → WordsIn (x .values)) e c (k .op)
@@ -90,13 +93,13 @@ performed-values-in e c k =
     (performed-valid e c k)
 
 -- on every record, since one that is not valid is refused
-pub values-in : (e : Engine) (c : Command) → WordsIn (Execute.execute e c .values)
+pub values-in : (e : Engine) (c : Command) → WordsIn (execute e c .values)
 values-in e c =
     by-answer (λ (x : Outcome). WordsIn (x .values)) e c (λ n. no-words-in) (λ k. performed-values-in e c k)
 
-pub answer-small : (e : Engine) (c : Command) → Execute.execute e c .answer ≤ 15
+pub answer-small : (e : Engine) (c : Command) → execute e c .answer ≤ lastNumber
 answer-small e c =
-    elim (ℕ-discrete (Execute.execute e c .answer) 0) [
+    elim (ℕ-discrete (execute e c .answer) 0) [
       | yes z ↦ omega arith
       | no n ↦ answer-bounds e c n .1
     ]

@@ -2,7 +2,7 @@
 -- parts, keep in range; a refusal keeps the record as it is.
 use Prim.Native.Nat.{ℕ, _+_, _<_, _≤_}
 use mathlib.Core.Path.{_≡_, refl}
-use mathlib.Core.Bool.{true, false, _||_}
+use mathlib.Core.Bool.{true, false}
 use native.Mathlib.Omega.{arith}
 use native.Mathlib.Nat.{mul-le-mul-right}
 use lib.Dec.{eqb}
@@ -16,47 +16,50 @@ use Rattle.model.specs.Clock.{shown, endOfTime, cycleAmount}
 use Rattle.model.specs.Fifo.{isEmpty}
 use Rattle.model.specs.Interrupts.{onlyBits}
 use Rattle.model.specs.Record
+use Rattle.model.specs.Tick
+use Rattle.model.specs.Orders
+use Rattle.model.specs.Ops
 use Rattle.model.specs.Ranges
 use Rattle.model.specs.Fields
 use Rattle.model.specs.Checks
-use Rattle.model.specs.Execute
-use Rattle.model.proofs.Laws.Tests.{Every, split, both-true, or-left, or-right}
+use Rattle.model.specs.Execute.{execute}
+use Rattle.model.proofs.Laws.Tests.{split, both-true, or-left, or-right}
 use Rattle.model.specs.Bounds.{AmountIn}
 use Rattle.model.proofs.Laws.Ranges.{Valid, valid-parts, parts-valid, clock-in, clock-ok}
 use Rattle.model.proofs.Laws.Ranges.{steering-in, steering-ok, adjustment-ok, running-ok}
 use Rattle.model.specs.Bounds.{WordsIn}
 use Rattle.model.proofs.Laws.Ranges.{words-in}
 use Rattle.model.proofs.Laws.Words.{time-words-in, seconds-in-low, amount-words-in, count-low}
-use Rattle.model.proofs.Laws.Clock.{ticked-ok, shown-ticked, step-bounds, cycle-amount-in, spent-ok}
+use Rattle.model.proofs.Laws.Clock.{ticked-ok, shown-ticked, step-bounds, cycle-amount-in}
+use Rattle.model.proofs.Laws.Clock.{steering-after-ok}
 use Rattle.model.proofs.Laws.Fifo.{captured-ok, popped-ok, oldest-rising}
 use Rattle.model.proofs.Laws.Generator.{generated-ok, idle-generator-ok}
 use Rattle.model.proofs.Laws.Bits.{only-bits-latch}
-use Rattle.model.proofs.Laws.Checks.{Accepted, by-answer, by-op, tick-fields, load-fields, command-fields}
-use Rattle.model.proofs.Laws.Checks.{arm-fields, mask-fields}
+use Rattle.model.proofs.Laws.Fields.{TickFields, tick-fields, load-words, command-fields, arm-fields, mask-bits}
+use Rattle.model.proofs.Laws.Checks.{Accepted, by-answer, by-op, by-write}
 use Rattle.model.proofs.Laws.Parts.{interrupts-in, interrupts-ok, none-latched, words-valid, steering-valid}
 use Rattle.model.proofs.Laws.Parts.{interrupts-valid, fifo-valid, fifo-at-ok, GeneratorOk, generator-valid}
 
 -- 256 ≤ S ≤ 65,536 in a tick of a valid record
-pub tick-step-bounds : (e : Engine) → Valid e → (256 ≤ Checks.tickStep e) × (Checks.tickStep e ≤ 65536)
+pub tick-step-bounds : (e : Engine) → Valid e → (256 ≤ Tick.tickStep e) × (Tick.tickStep e ≤ 65536)
 tick-step-bounds e v =
     step-bounds (e .clock) (cycleAmount (e .steering)) (clock-in (e .clock) (v .clock) .remainder)
     (cycle-amount-in (e .steering) (v .steering))
 
 -- op 0
-tick-valid : (e : Engine) (c : Command) → Valid e → shown (e .clock) + Checks.tickStep e < endOfTime
-    → Every (Fields.tickFields c) → Valid (Execute.tickEngine e c)
-unfolding Execute.tickEngine
+tick-valid : (e : Engine) (c : Command) → Valid e → shown (e .clock) + Tick.tickStep e < endOfTime
+    → TickFields c → Valid (Tick.tickEngine e c)
+unfolding Tick.tickEngine
 tick-valid e c v near f =
-    let s = steering-in (e .steering) (v .steering) in
     let i = interrupts-in (e .interrupts) (v .interrupts) in
     let small = tick-step-bounds e v .1 in
     let now = shown-ticked (e .clock) (cycleAmount (e .steering)) in
     record {
       clock = ticked-ok (e .clock) _ near;
-      steering = steering-ok _ (s .0) (spent-ok (e .steering .adjustment) (s .1));
-      fifo1 = captured-ok (e .fifo1) _ _ (c .a) (leb-true _ _ (f .0)) near (v .fifo1);
-      fifo2 = captured-ok (e .fifo2) _ _ (c .b) (leb-true _ _ (f .1 .0)) near (v .fifo2);
-      fifo3 = captured-ok (e .fifo3) _ _ (c .c) (leb-true _ _ (f .1 .1 .0)) near (v .fifo3);
+      steering = steering-after-ok (e .steering) (v .steering);
+      fifo1 = captured-ok (e .fifo1) _ _ (c .a) (f .input1) near (v .fifo1);
+      fifo2 = captured-ok (e .fifo2) _ _ (c .b) (f .input2) near (v .fifo2);
+      fifo3 = captured-ok (e .fifo3) _ _ (c .c) (f .input3) near (v .fifo3);
       generator1 = rw now (generated-ok (e .generator1) _ _ small (v .generator1));
       generator2 = rw now (generated-ok (e .generator2) _ _ small (v .generator2));
       interrupts = interrupts-ok _ (only-bits-latch _ _ (i .0)) (i .1);
@@ -71,52 +74,50 @@ module _ (e : Engine) (c : Command) (o : c .op ≡ 2) (k : Accepted e c) where
   w : WordsIn (e .words)
   w = words-in (e .words) (v .words)
 
-  writes : (n : ℕ) → eqb (c .a) n ≡ true → Checks.writes c n ≡ true
-  writes n h = both-true _ _ (eq-eqb _ _ o) h
+  writes : (n : ℕ) → c .a ≡ n → Checks.writes n c ≡ true
+  writes n a = both-true _ _ (eq-eqb _ _ o) (eq-eqb _ _ a)
 
-  time-valid : eqb (c .a) 0 ≡ true → Valid (Execute.timeWritten e)
-  time-valid h =
+  time-valid : c .a ≡ 0 → Valid (Orders.timeWritten e)
+  time-valid a =
       let parts = v in
-      let f = k .check8 (writes 0 h) in
-      let clock = clock-ok (Execute.timeWritten e .clock) (omega (arith, seconds-in-low (e .words) w)) in
-      let idle = idle-generator-ok (shown (Execute.timeWritten e .clock)) in
+      let f = k .check8 (writes 0 a) in
+      let clock = clock-ok (Orders.timeWritten e .clock) (omega (arith, seconds-in-low (e .words) w)) in
+      let idle = idle-generator-ok (shown (Orders.timeWritten e .clock)) in
       search
 
-  amount-in : (Checks.writes c 1 || Checks.writes c 2) ≡ true → AmountIn (Words.amountIn (e .words))
+  amount-in : Checks.writesAmount c ≡ true → AmountIn (Words.amountIn (e .words))
   amount-in h = amount-words-in (e .words) w (k .check9 h)
 
-  period-valid : eqb (c .a) 1 ≡ true → Valid (Execute.periodWritten e)
-  period-valid h =
+  period-valid : c .a ≡ 1 → Valid (Orders.periodWritten e)
+  period-valid a =
       steering-valid e _ v
-      (steering-ok _ (amount-in (simp (writes 1 h))) (steering-in (e .steering) (v .steering) .1))
+      (steering-ok _ (amount-in (simp (writes 1 a))) (steering-in (e .steering) (v .steering) .1))
 
-  adjust-valid : eqb (c .a) 2 ≡ true → Valid (Execute.adjustWritten e)
-  adjust-valid h =
-      let a = amount-in (or-right (Checks.writes c 1) _ (writes 2 h)) in
-      let n = k .check10 (writes 2 h) in
+  adjust-valid : c .a ≡ 2 → Valid (Orders.adjustWritten e)
+  adjust-valid a =
+      let amount = amount-in (or-right (Checks.writes 1 c) _ (writes 2 a)) in
+      let n = k .check10 (writes 2 a) in
       steering-valid e _ v
       (steering-ok _ (steering-in (e .steering) (v .steering) .0)
-      (adjustment-ok _ (record { amount = a; some = n; cycles = count-low (e .words) w })))
+      (adjustment-ok _ (record { amount = amount; some = n; cycles = count-low (e .words) w })))
 
-  pub written-valid : Valid (Execute.written e (c .a))
-  unfolding Execute.written
+  pub written-valid : Valid (Orders.written e (c .a))
   written-valid =
-      split Valid (eqb (c .a) 0) time-valid (λ n0.
-      split Valid (eqb (c .a) 1) period-valid (λ n1.
-      split Valid (eqb (c .a) 2) adjust-valid (λ n2. v)))
+      by-write Valid e (c .a)
+      (record { time = time-valid; period = period-valid; adjust = adjust-valid; none = λ past. v })
 
 -- op 2, the read
 read-words-in : (e : Engine) (n : ℕ) → Valid e → (eqb n 0 ≡ false → isEmpty (Record.fifo e n) ≡ false)
-    → WordsIn (Execute.readWords e n)
-unfolding Execute.readWords
+    → WordsIn (Orders.readWords e n)
+unfolding Orders.readWords
 read-words-in e n v some =
     split WordsIn (eqb n 0)
     (λ y. time-words-in _ _ 0 (omega arith))
     (λ y. time-words-in _ _ _ (oldest-rising (Record.fifo e n) (some y) (fifo-at-ok e n v)))
 
 read-valid : (e : Engine) (n : ℕ) → Valid e → (eqb n 0 ≡ false → isEmpty (Record.fifo e n) ≡ false)
-    → Valid (Execute.readEngine e n)
-unfolding Execute.readEngine
+    → Valid (Orders.readEngine e n)
+unfolding Orders.readEngine
 read-valid e n v some =
     words-valid _ _
     (split Valid (eqb n 0)
@@ -125,22 +126,16 @@ read-valid e n v some =
     (read-words-in e n v some)
 
 -- a write leaves the FIFOs alone
-pub fifo-written : (e : Engine) (selector n : ℕ) → Record.fifo (Execute.written e selector) n ≡ Record.fifo e n
-unfolding Execute.written
+pub fifo-written : (e : Engine) (selector n : ℕ) → Record.fifo (Orders.written e selector) n ≡ Record.fifo e n
 fifo-written e selector n =
-    split Same (eqb selector 0) (λ y. refl) (λ y.
-    split Same (eqb selector 1) (λ y. refl) (λ y.
-    split Same (eqb selector 2) (λ y. refl) (λ y. refl)))
-  where
-    Same : Engine → Type 0
-    Same x = Record.fifo x n ≡ Record.fifo e n
+    by-write (λ (x : Engine). Record.fifo x n ≡ Record.fifo e n) e selector
+    (record { time = λ a. refl; period = λ a. refl; adjust = λ a. refl; none = λ past. refl })
 
 -- an accepted op 2 with a read selector that is neither 8 nor 0 reads a FIFO
 pub reads-fifo : (c : Command) → c .op ≡ 2 → Fields.fieldsOk c ≡ true → eqb (c .b) 8 ≡ false → eqb (c .b) 0 ≡ false
     → Checks.readsFifo c ≡ true
 reads-fifo c o ok n8 n0 =
-    let f = command-fields c o ok in
-    let low : c .b ≤ 3 = leb-true _ _ (or-left _ _ (f .1 .0) n8) in
+    let low : c .b ≤ 3 = leb-true _ _ (or-left _ _ (command-fields c ok o .read) n8) in
     let z = eqb-false (c .b) 0 n0 in
     both-true _ _ (both-true _ _ (eq-eqb _ _ o) (le-leb 1 (c .b) (omega arith))) (le-leb _ _ low)
 
@@ -150,52 +145,52 @@ pub fifo-filled : (e : Engine) (c : Command) → Accepted e c → Checks.readsFi
 fifo-filled e c k reads = not-true _ (k .check7 reads)
 
 commanded-valid : (e : Engine) (c : Command) → c .op ≡ 2 → Accepted e c
-    → Valid (Execute.commanded e (c .a) (c .b) .engine)
-unfolding Execute.commanded
+    → Valid (Orders.commanded e (c .a) (c .b) .engine)
+unfolding Orders.commanded
 commanded-valid e c o k =
     split Good (eqb (c .b) 8)
     (λ y. written-valid e c o k)
-    (λ n8. read-valid (Execute.written e (c .a)) (c .b) (written-valid e c o k)
+    (λ n8. read-valid (Orders.written e (c .a)) (c .b) (written-valid e c o k)
     (λ n0. rw fifo-written (fifo-filled e c k (reads-fifo c o (k .fields) n8 n0))))
   where
     Good : Outcome → Type 0
     Good x = Valid (x .engine)
 
 -- op 5
-interrupts-read-valid : (e : Engine) → Valid e → Valid (Execute.interruptsRead e .engine)
-unfolding Execute.interruptsRead
+interrupts-read-valid : (e : Engine) → Valid e → Valid (Orders.interruptsRead e .engine)
+unfolding Orders.interruptsRead
 interrupts-read-valid e v =
     interrupts-valid e _ v (interrupts-ok _ none-latched (interrupts-in (e .interrupts) (v .interrupts) .1))
 
 -- op 3
-armed-ok : (e : Engine) (c : Command) → c .op ≡ 3 → Accepted e c → GeneratorOk (shown (e .clock)) (Execute.armedBy c)
+armed-ok : (e : Engine) (c : Command) → c .op ≡ 3 → Accepted e c → GeneratorOk (shown (e .clock)) (Orders.armedBy c)
 armed-ok e c o k =
-    let f = arm-fields c o (k .fields) in
+    let f = arm-fields c (k .fields) o in
     let small = k .check12 (eq-eqb _ _ o) in
     let ahead = k .check14 (eq-eqb _ _ o) in
     let scaled = mul-le-mul-right (c .f) ahead in
-    running-ok (Execute.armedBy c) _ (omega (arith, ltb-true, leb-true))
+    running-ok (Orders.armedBy c) _ (omega (arith, ltb-true, leb-true))
 
-pub performed-valid : (e : Engine) (c : Command) → Accepted e c → Valid (Execute.performed e c .engine)
+pub performed-valid : (e : Engine) (c : Command) → Accepted e c → Valid (Ops.performed e c .engine)
 performed-valid e c k =
     let v = valid-parts e (k .valid) in
     let i = interrupts-in (e .interrupts) (v .interrupts) in
     by-op (λ (x : Outcome). Valid (x .engine)) e c (k .op)
     (record {
-      tick = λ o. tick-valid e c v (k .check15 (eq-eqb _ _ o)) (tick-fields c o (k .fields));
-      load = λ o. let f = load-fields c o (k .fields) in words-valid e _ v (omega (arith, ltb-true));
+      tick = λ o. tick-valid e c v (ltb-true _ _ (k .check15 (eq-eqb _ _ o))) (tick-fields c (k .fields) o);
+      load = λ o. words-valid e _ v (load-words c (k .fields) o);
       command = λ o. commanded-valid e c o k;
       arm = λ o. generator-valid e (c .a) _ v (armed-ok e c o k);
       stop = λ o. generator-valid e (c .a) _ v (idle-generator-ok _);
       interrupts = λ o. interrupts-read-valid e v;
-      mask = λ o. interrupts-valid e _ v (interrupts-ok _ (i .0) (mask-fields c o (k .fields) .0));
+      mask = λ o. interrupts-valid e _ v (interrupts-ok _ (i .0) (mask-bits c (k .fields) o));
       status = λ o. v;
       show = λ o. v;
     })
 
 -- execute keeps a valid record valid
 pub execute-valid : (e : Engine) (c : Command) → Ranges.valid e ≡ true
-    → Ranges.valid (Execute.execute e c .engine) ≡ true
+    → Ranges.valid (execute e c .engine) ≡ true
 execute-valid e c v =
     by-answer (λ (x : Outcome). Ranges.valid (x .engine) ≡ true) e c
     (λ n. v)

@@ -1,6 +1,6 @@
 -- The definition's word, and no bit left.
 use borrow.Author.Needs.{needs}
-use Rattle.model.specs.Execute.{interruptsRead}
+use Rattle.model.specs.Orders.{interruptsRead}
 use Rattle.ops.proofs.read_interrupts.Statement.{statement}
 use Rattle.ops.proofs.read_interrupts.Tie as tie
 

@@ -1,6 +1,6 @@
 -- The definition's word.
 use borrow.Author.Needs.{needs}
-use Rattle.model.specs.Execute.{statusOf}
+use Rattle.model.specs.Orders.{statusOf}
 use Rattle.ops.proofs.read_status.Statement.{statement}
 use Rattle.ops.proofs.read_status.Tie as tie
 

@@ -1,7 +1,9 @@
 -- One arm for each selector, and none for the others.
+use native.Mathlib.Omega.{arith}
+use lib.ListN.{List·getD-eq-default}
 use borrow.Author.Needs.{needs}
-use borrow.Author.Tests.{ne-eqb}
-use Rattle.model.specs.Execute.{written}
+use Rattle.model.specs.Orders.{writings, written}
+use Rattle.model.proofs.Laws.Tables.{past-arms}
 use Rattle.ops.proofs.write.Statement.{statement}
 use Rattle.ops.proofs.write.Tie as tie
 
@@ -19,7 +21,9 @@ returns-3 c = simp (c .write-adjustment .ensures, c .before .match .keys3)
 
 returns-4 : tie.Need-returns-4
 unfolding written
-returns-4 c = let n = c .match .rest in simp (ne-eqb _ _ (n .0 .0 .1), ne-eqb _ _ (n .0 .1), ne-eqb _ _ (n .1))
+returns-4 c =
+    let past = past-arms 0 3 _ (omega arith) (c .match .rest) in
+    rw (List·getD-eq-default writings (λ e. e) past)
 
 pub write-spec : {M : Type 1} → statement M
 write-spec =

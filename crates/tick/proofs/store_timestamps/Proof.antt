@@ -1,6 +1,6 @@
 -- Each FIFO captures its input's code at the time shown before the tick, as the definition says.
 use borrow.Author.Needs.{needs}
-use Rattle.tick.proofs.Within.{clock-within, amount-low, capturing1, capturing2, capturing3}
+use Rattle.tick.proofs.Within.{clock-within, amount-low, codes-few, capturing}
 use Rattle.tick.proofs.store_timestamps.Statement.{statement}
 use Rattle.tick.proofs.store_timestamps.Tie as tie
 
@@ -10,17 +10,20 @@ step-by-requires c κs =
 
 capture-requires : tie.Need-capture-requires
 capture-requires c κs =
-    rw (c .step-by .ensures, c .before .cycle-amount .ensures) (capturing1 _ _ (c .before .before .pre))
+    let k = c .before .before .pre in
+    rw (c .step-by .ensures, c .before .cycle-amount .ensures) (capturing _ _ k _ (codes-few _ _ k .input1))
 
 capture-requires-2 : tie.Need-capture-requires-2
 capture-requires-2 c κs =
     let step = c .before in
-    rw (step .step-by .ensures, step .before .cycle-amount .ensures) (capturing2 _ _ (step .before .before .pre))
+    let k = step .before .before .pre in
+    rw (step .step-by .ensures, step .before .cycle-amount .ensures) (capturing _ _ k _ (codes-few _ _ k .input2))
 
 capture-requires-3 : tie.Need-capture-requires-3
 capture-requires-3 c κs =
     let step = c .before .before in
-    rw (step .step-by .ensures, step .before .cycle-amount .ensures) (capturing3 _ _ (step .before .before .pre))
+    let k = step .before .before .pre in
+    rw (step .step-by .ensures, step .before .cycle-amount .ensures) (capturing _ _ k _ (codes-few _ _ k .input3))
 
 returns : tie.Need-returns
 returns c =
