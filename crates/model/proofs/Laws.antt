@@ -13,11 +13,12 @@ pub mod Clock
 pub mod Fifo
 pub mod Generator
 pub mod Bits
--- the whole: what an accepted command has passed, that a valid record stays valid, and outcomes
+-- the whole: what an accepted command has passed, that a valid record stays valid, ticks, outcomes
 pub mod Checks
 pub mod Parts
 pub mod Interrupts
 pub mod Valid
+pub mod Ticks
 pub mod Outcomes
 -- fractions, and the lag of an edge
 pub mod Fractions
