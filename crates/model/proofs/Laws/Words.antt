@@ -21,20 +21,22 @@ pub time-words-in : (s n b : ℕ) → b ≤ 1 → WordsIn (Words.timeWords s n b
 unfolding Words.timeWords
 time-words-in s n b hb = omega arith
 
+-- words are equal place by place
+record SameWords (v w : Words) : Type 0 where
+  w1 : v .w1 ≡ w .w1
+  w2 : v .w2 ≡ w .w2
+  w3 : v .w3 ≡ w .w3
+  w4 : v .w4 ≡ w .w4
+  w5 : v .w5 ≡ w .w5
+
+same-words : {v w : Words} → SameWords v w → v ≡ w
+same-words s = λ i. record { w1 = s .w1 i; w2 = s .w2 i; w3 = s .w3 i; w4 = s .w4 i; w5 = s .w5 i }
+
 -- writes: words that a TIME write accepts are the words of the time that they hold
 pub words-of-time : (w : Words) → WordsIn w → Words.aboveNanoseconds w ≡ 0
     → Words.timeWords (Words.secondsIn w) (Words.nanosecondsIn w) 0 ≡ w
 unfolding Words.secondsIn Words.nanosecondsIn Words.timeWords Words.aboveNanoseconds
-words-of-time w h z =
-    let e₁ : (w .w3 * 2 ^ 32 + w .w2 * 2 ^ 16 + w .w1) % 2 ^ 16 ≡ w .w1 = omega arith in
-    let upper : (w .w3 * 2 ^ 32 + w .w2 * 2 ^ 16 + w .w1) / 2 ^ 16 ≡ w .w3 * 2 ^ 16 + w .w2 = omega arith in
-    let e₂ : (w .w3 * 2 ^ 32 + w .w2 * 2 ^ 16 + w .w1) / 2 ^ 16 % 2 ^ 16 ≡ w .w2 = rw upper (omega arith) in
-    let top : (w .w3 * 2 ^ 32 + w .w2 * 2 ^ 16 + w .w1) / 2 ^ 32 ≡ w .w3 = omega arith in
-    let e₃ : (w .w3 * 2 ^ 32 + w .w2 * 2 ^ 16 + w .w1) / 2 ^ 32 % 2 ^ 16 ≡ w .w3 = rw top (omega arith) in
-    let e₄ : (w .w5 % 2 ^ 14 * 2 ^ 16 + w .w4) % 2 ^ 16 ≡ w .w4 = omega arith in
-    let high : (w .w5 % 2 ^ 14 * 2 ^ 16 + w .w4) / 2 ^ 16 ≡ w .w5 % 2 ^ 14 = omega arith in
-    let e₅ : 0 * 2 ^ 15 + (w .w5 % 2 ^ 14 * 2 ^ 16 + w .w4) / 2 ^ 16 % 2 ^ 14 ≡ w .w5 = rw high (omega arith) in
-    λ i. record { w1 = e₁ i; w2 = e₂ i; w3 = e₃ i; w4 = e₄ i; w5 = e₅ i }
+words-of-time w h z = same-words (omega arith)
 
 pub seconds-in-low : (w : Words) → WordsIn w → Words.secondsIn w < 2 ^ 48
 unfolding Words.secondsIn
@@ -69,17 +71,4 @@ amount-words-hold ignored amount count ha hc = omega arith
 
 pub words-of-amount : (w : Words) → WordsIn w → amountWords (w .w1) (Words.amountIn w) (Words.countIn w) ≡ w
 unfolding Words.amountIn Words.wholeIn Words.fracIn Words.countIn amountWords
-words-of-amount w h =
-    let x = w .w5 / 2 ^ 8 * 2 ^ 32 + (w .w5 % 2 ^ 8 * 2 ^ 24 + w .w4 * 2 ^ 8 + w .w3 / 2 ^ 8) in
-    let n = w .w3 % 2 ^ 8 * 2 ^ 16 + w .w2 in
-    let joined : x ≡ (w .w5 * 2 ^ 16 + w .w4) * 2 ^ 8 + w .w3 / 2 ^ 8 = omega arith in
-    let e₂ : n % 2 ^ 16 ≡ w .w2 = omega arith in
-    let low : x % 2 ^ 8 ≡ w .w3 / 2 ^ 8 = rw joined (omega arith) in
-    let byte : n / 2 ^ 16 ≡ w .w3 % 2 ^ 8 = omega arith in
-    let high : n / 2 ^ 16 % 2 ^ 8 ≡ w .w3 % 2 ^ 8 = rw byte (omega arith) in
-    let e₃ : x % 2 ^ 8 * 2 ^ 8 + n / 2 ^ 16 % 2 ^ 8 ≡ w .w3 = rw (low, high) (omega arith) in
-    let above : x / 2 ^ 8 ≡ w .w5 * 2 ^ 16 + w .w4 = rw joined (omega arith) in
-    let e₄ : x / 2 ^ 8 % 2 ^ 16 ≡ w .w4 = rw above (omega arith) in
-    let top : x / 2 ^ 24 ≡ w .w5 = rw joined (omega arith) in
-    let e₅ : x / 2 ^ 24 % 2 ^ 16 ≡ w .w5 = rw top (omega arith) in
-    λ i. record { w1 = w .w1; w2 = e₂ i; w3 = e₃ i; w4 = e₄ i; w5 = e₅ i }
+words-of-amount w h = same-words (omega arith)
