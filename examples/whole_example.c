@@ -19,8 +19,8 @@ static uint8_t results[LENDARU_RESULTS_ROOM];
 
 int main(void)
 {
-    if (lendaru_sheet_version() != 1) {
-        fprintf(stderr, "this program writes sheets of version 1\n");
+    if (lendaru_sheet_version() != LENDARU_SHEET_VERSION) {
+        fprintf(stderr, "this program writes sheets of version %d\n", LENDARU_SHEET_VERSION);
         return 1;
     }
     size_t length = lendaru_run_sheet((const uint8_t *)sheet, strlen(sheet), results, sizeof results);

@@ -5,11 +5,18 @@
 //!     bench            prints the table
 //!     bench FILE       prints one row of it, for the sheet in this file
 //!     bench ROW N WHO  does N units of one row or file, for valgrind to count
-use reference::engine::Command;
-use reference::tuned;
+use engine::{Command, Outcome};
+use reference::record::Record;
+use reference::{engine, tuned};
 use std::hint::black_box;
 use std::process::Command as Process;
 use std::time::Instant;
+
+/// The tuned engine once more, for the lent record: a second caller of the first would change how the compiler puts it
+/// into the loops of the other rows.
+#[allow(dead_code)]
+#[path = "../src/tuned.rs"]
+mod lent_tuned;
 
 #[link(name = "lendaru", kind = "static")]
 extern "C" {
@@ -20,6 +27,12 @@ extern "C" {
 #[link(name = "tick_bench", kind = "static")]
 extern "C" {
     fn tick_bench_ticks(n: u64, cycles: u64, edges: u64, stamps: u64, code: u64, checked: u64) -> u64;
+}
+
+#[link(name = "lendaru_panel", kind = "static")]
+extern "C" {
+    fn lendaru_power_on() -> Record;
+    fn lendaru_execute(e: &mut Record, c: Command) -> Outcome;
 }
 
 fn command(op: u64, fields: &[u64]) -> Command {
@@ -56,16 +69,54 @@ fn tuned_ticked(e: &mut tuned::Engine, code: u64, n: u64, checked: bool) -> u64 
     told
 }
 
+/// The orders that `tick_bench` gives.
+fn orders(load: Load) -> [Command; 4] {
+    [
+        command(1, &[0, load.cycles, 0, 0, 1920]),
+        command(2, &[2, 8]),
+        command(3, &[1, 0, 3, 256, 1, 3, load.edges, 1]),
+        command(3, &[2, 0, 5, 300, 6, 7, load.edges, 1]),
+    ]
+}
+
 /// The tuned engine with the orders and timestamps that `tick_bench` gives, then n ticks.
 fn tuned_ticks(n: u64, load: Load, checked: bool) -> u64 {
     let mut e = tuned::Engine::new();
-    e.execute(&command(1, &[0, load.cycles, 0, 0, 1920]));
-    e.execute(&command(2, &[2, 8]));
-    e.execute(&command(3, &[1, 0, 3, 256, 1, 3, load.edges, 1]));
-    e.execute(&command(3, &[2, 0, 5, 300, 6, 7, load.edges, 1]));
+    for c in &orders(load) {
+        e.execute(c);
+    }
     let before = tuned_ticked(&mut e, 16, load.stamps, false);
     let told = tuned_ticked(&mut e, load.code, n, checked);
     e.nanoseconds() | before | told
+}
+
+/// A command on a lent record, with the same call as the panel's library: check 4, then the command.
+#[inline(never)]
+extern "C" fn tuned_execute(e: &mut lent_tuned::Engine, c: Command) -> Outcome {
+    if e.is_valid() {
+        tuned_checked(e, &c)
+    } else {
+        Outcome { answer: 4, values: [0; 5] }
+    }
+}
+
+/// The command by itself: compiled into the check's function it would take a twentieth more instructions.
+#[inline(never)]
+fn tuned_checked(e: &mut lent_tuned::Engine, c: &Command) -> Outcome {
+    e.execute(c)
+}
+
+/// The bits of all that n commands tell, a call for each, the two by turns, after the orders of a load.
+fn calls<E>(n: u64, load: Load, turns: &[Command; 2], e: &mut E, execute: impl Fn(&mut E, Command) -> Outcome) -> u64 {
+    let mut told = 0;
+    for c in orders(load) {
+        told |= execute(e, c).answer;
+    }
+    for i in 0..n as usize {
+        let o = execute(e, turns[i % 2]);
+        told |= o.values.iter().fold(o.answer, |bits, v| bits | v);
+    }
+    told
 }
 
 /// A sheet of n lines: tick lines; or a busy one, with two trains, steering, inputs, and timestamps and interrupts
@@ -90,14 +141,18 @@ fn sheet_of(n: u64, busy: bool) -> Vec<u8> {
     s
 }
 
-/// What a row does: ticks on a load, with check 4 before each or without, or a whole sheet again and again.
+/// What a row does: ticks on a load, with check 4 before each or without; a whole sheet again and again; or two
+/// commands by turns on a lent record with a load.
 enum Work {
     Ticks(Load, bool),
     Sheet(Vec<u8>),
+    Lent(Load, [Command; 2]),
 }
-use Work::{Sheet, Ticks};
+use Work::{Lent, Sheet, Ticks};
 
-fn rows() -> [(&'static str, Work); 11] {
+fn rows() -> [(&'static str, Work); 14] {
+    let tick = |code| command(0, &[code, code, code]);
+    let stored_and_read = [command(0, &[16]), command(2, &[16, 1])];
     [
         ("tick, idle", Ticks(IDLE, false)),
         ("tick, idle, check 4", Ticks(IDLE, true)),
@@ -110,6 +165,9 @@ fn rows() -> [(&'static str, Work); 11] {
         ("line of a sheet of 1,000 ticks", Sheet(sheet_of(1000, false))),
         ("line of a sheet of 3,600 ticks", Sheet(sheet_of(3600, false))),
         ("line of a busy sheet of 3,500", Sheet(sheet_of(3500, true))),
+        ("command on a lent record, idle tick", Lent(IDLE, [tick(IDLE.code); 2])),
+        ("command on a lent record, busy tick", Lent(BUSY, [tick(BUSY.code); 2])),
+        ("command on a lent record, timestamp stored and read by turns", Lent(IDLE, stored_and_read)),
     ]
 }
 
@@ -122,10 +180,10 @@ impl Work {
         }
     }
 
-    /// How many units come at once: one tick, or the lines of a sheet.
+    /// How many units come at once: one tick or command, or the lines of a sheet.
     fn whole(&self) -> u64 {
         match self {
-            Ticks(..) => 1,
+            Ticks(..) | Lent(..) => 1,
             Sheet(sheet) => sheet.iter().filter(|&&b| b == b'\n').count().max(2) as u64 - 1,
         }
     }
@@ -140,6 +198,7 @@ impl Work {
         match self {
             Ticks(load, checked) => ticks(n, black_box(*load), *checked, ours),
             Sheet(sheet) => sheets(n.div_ceil(self.whole()), sheet, ours),
+            Lent(load, turns) => lent(n, black_box(*load), black_box(turns), ours),
         }
     }
 }
@@ -152,6 +211,20 @@ fn ticks(n: u64, load: Load, checked: bool, ours: bool) {
     } else {
         tuned_ticks(n, load, checked)
     });
+}
+
+fn lent(n: u64, load: Load, turns: &[Command; 2], ours: bool) {
+    if ours {
+        // SAFETY: it takes nothing.
+        let mut e = unsafe { lendaru_power_on() };
+        // SAFETY: the record is lent for the call alone.
+        black_box(calls(n, load, turns, &mut e, |e, c| unsafe { lendaru_execute(e, c) }));
+        black_box(&e);
+    } else {
+        let mut e = lent_tuned::Engine::new();
+        black_box(calls(n, load, turns, &mut e, |e, c| tuned_execute(e, c)));
+        black_box(&e);
+    }
 }
 
 fn sheets(times: u64, sheet: &[u8], ours: bool) {

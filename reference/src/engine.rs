@@ -13,12 +13,14 @@ const NOT_EMPTY: [u64; 3] = [1 << 8, 1 << 10, 1 << 12];
 const OVERFLOW: [u64; 3] = [1 << 9, 1 << 11, 1 << 13];
 
 /// A line of the sheet: the op, then a to h.
+#[repr(C)]
 #[derive(Clone, Copy, Debug, PartialEq, Eq)]
 pub struct Command {
     pub op: u64,
     pub f: [u64; 8],
 }
 
+#[repr(C)]
 #[derive(Clone, Copy, Debug, PartialEq, Eq)]
 pub struct Outcome {
     pub answer: u64,
@@ -26,27 +28,27 @@ pub struct Outcome {
 }
 
 #[derive(Clone, Copy)]
-struct Stamp {
-    ns: u128,
-    rising: bool,
+pub(crate) struct Stamp {
+    pub ns: u128,
+    pub rising: bool,
 }
 
 #[derive(Clone, Copy)]
-struct Adjustment {
-    amount: u128,
-    cycles: u64,
+pub(crate) struct Adjustment {
+    pub amount: u128,
+    pub cycles: u64,
 }
 
 pub struct Engine {
     /// the time shown and the remainder in one number, in 2^-32 ns
-    exact: u128,
-    period: u128,
-    adjustment: Option<Adjustment>,
-    stampers: [VecDeque<Stamp>; 3],
-    generators: [Option<Generator>; 2],
-    latched: u64,
-    enabled: u64,
-    words: [u64; 5],
+    pub(crate) exact: u128,
+    pub(crate) period: u128,
+    pub(crate) adjustment: Option<Adjustment>,
+    pub(crate) stampers: [VecDeque<Stamp>; 3],
+    pub(crate) generators: [Option<Generator>; 2],
+    pub(crate) latched: u64,
+    pub(crate) enabled: u64,
+    pub(crate) words: [u64; 5],
 }
 
 fn refuse(answer: u64) -> Outcome {
@@ -176,7 +178,7 @@ impl Engine {
     fn generate(&mut self, i: usize, shown: u128, step: u128) -> u64 {
         let Some(mut g) = self.generators[i] else { return 0 };
         let Some(eighth) = g.eighth(shown, step) else { return 0 };
-        let code = if g.done % 2 == 0 { 9 + eighth } else { 1 + eighth };
+        let code = if g.direction() == 0 { 9 + eighth } else { 1 + eighth };
         if g.mark {
             self.latched |= EVENT[i];
         }
@@ -242,11 +244,12 @@ impl Engine {
             return refuse(14);
         }
         self.generators[place] = Some(Generator {
-            start,
+            start: start * u128::from(den),
             whole: u128::from(whole),
             num: u128::from(num),
             den: u128::from(den),
             count,
+            first: 0,
             mark: mark == 1,
             done: 0,
         });

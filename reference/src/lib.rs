@@ -6,5 +6,6 @@ pub mod engine;
 pub mod generator;
 pub mod ledger;
 pub mod random;
+pub mod record;
 pub mod sheet;
 pub mod tuned;

@@ -17,16 +17,16 @@ impl Random {
         self.next() % n
     }
 
-    fn one_of(&mut self, all: &[u64]) -> u64 {
+    pub fn one_of(&mut self, all: &[u64]) -> u64 {
         all[self.below(all.len() as u64) as usize]
     }
 
-    fn chance(&mut self, percent: u64) -> bool {
+    pub fn chance(&mut self, percent: u64) -> bool {
         self.below(100) < percent
     }
 
     /// A number of any size, often at a limit.
-    fn hostile(&mut self) -> u64 {
+    pub fn hostile(&mut self) -> u64 {
         let edge = [0, 1, 2, 8, 9, 16, 17, 255, 256, 65535, 65536, 999_999_999, 1_000_000_000, 1 << 24];
         let large = [u64::MAX, u64::MAX - 1, 1 << 32, (1 << 32) - 1, 1 << 48, (1 << 48) - 1, 0x3F7F, 0x4000, 0x80];
         match self.below(4) {
@@ -55,7 +55,7 @@ impl Random {
         w
     }
 
-    fn command(&mut self) -> [u64; 9] {
+    pub fn command(&mut self) -> [u64; 9] {
         let mut c = [0; 9];
         match self.below(100) {
             0..=54 => {

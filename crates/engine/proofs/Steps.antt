@@ -66,9 +66,24 @@ module _ (e : Engine) (c : Command) where
     keeps = ap (λ o. valid (o .engine)) (g .is) ∙ execute-valid e c v;
   }
 
+  -- what a change tells, with the record after it
+  pub settled-stepped : (m : Change) (n : Engine) → valid e ≡ true → Gives e c (execute e c) m → n ≡ execute e c .engine
+      → Stepped e c (record { answer = m .answer; values = m .values; engine = n })
+  settled-stepped m n v g settled =
+      let answer = ap (λ (o : Outcome). o .answer) (g .is) in
+      let values = ap (λ (o : Outcome). o .values) (g .is) in
+      record {
+        is = λ i. record { answer = answer i; values = values i; engine = settled i };
+        keeps = ap valid settled ∙ execute-valid e c v;
+      }
+
   pub malformed : valid e ≡ false → refused e 4 ≡ execute e c
   unfolding execute answerOf checks
   malformed h = rw h
+
+  pub malformed-gives : valid e ≡ false → Gives e c (execute e c) (changeTo 4 noWords e false)
+  unfolding answerOf checks
+  malformed-gives h = refused-gives e c 4 _ (rw h refl) (malformed h)
 
   pub latched-low : answerOf e c ≡ 0 → e .interrupts .latched < 2 ^ 16
   latched-low h =

@@ -100,6 +100,18 @@ pub fn move_fifos(e: Engine, c: Command) -> Engine
     }
 }
 
+// The record with a command's change made: its FIFOs moved where one moves, then the parts of the change.
+pub fn settle(e: Engine, c: Command, m: Change) -> Engine
+    requires { ⌜ Gives e c (executeSpec e c) m ⌝ }
+    ensures { λ r. ⌜ r ≡ executeSpec e c .engine ⌝ }
+{
+    let mut moved = e;
+    if m.moves {
+        moved = move_fifos(e, c);
+    }
+    apply(moved, m)
+}
+
 // One command on a valid record, which stays valid: for callers that run many, and check the record once.
 pub fn step(e: Engine, c: Command) -> Outcome
     requires { ⌜ valid e ≡ true ⌝ }
@@ -107,14 +119,10 @@ pub fn step(e: Engine, c: Command) -> Outcome
 {
     let m = change_by(e, c);
     let values = m.values;
-    let mut moved = e;
-    if m.moves {
-        moved = move_fifos(e, c);
-    }
     Outcome {
         answer: m.answer,
         values: values,
-        engine: apply(moved, m),
+        engine: settle(e, c, m),
     }
 }
 

@@ -28,6 +28,10 @@ powerOn = record {
   words = noWords;
 }
 
+-- the version of the record's layout, for callers that keep a record. A part that is added counts it on
+abbrev pub recordVersion : ℕ
+recordVersion = 1
+
 -- the record with a part replaced
 abbrev pub withClock : Engine → Clock → Engine
 withClock e x = record {

@@ -25,6 +25,7 @@ pub const LATCHED_MASK: u64 = 0x3F37;
 pub const ENABLED_MASK: u64 = 0x3F7F;
 
 // The time shown (48-bit seconds, nanoseconds, 1/256 ns) and the hidden remainder in 2^-32 ns.
+#[repr(C)]
 pub struct Clock {
     pub seconds: u64,
     pub nanoseconds: u64,
@@ -33,18 +34,21 @@ pub struct Clock {
 }
 
 // PER_ADJ in 2^-32 ns and the cycles that are left of it; idle is all zeros.
+#[repr(C)]
 pub struct Adjustment {
     pub amount: u64,
     pub cycles: u64,
 }
 
 // PERIOD in 2^-32 ns, and the running adjustment.
+#[repr(C)]
 pub struct Steering {
     pub period: u64,
     pub adjustment: Adjustment,
 }
 
 // The timestamp of an input edge; rising is 1 or 0.
+#[repr(C)]
 pub struct Timestamp {
     pub seconds: u64,
     pub nanoseconds: u64,
@@ -52,12 +56,14 @@ pub struct Timestamp {
 }
 
 // The timestamp FIFO of one timestamper: oldest first, unused places zero.
+#[repr(C)]
 pub struct Fifo {
     pub entries: [Timestamp; 8],
     pub count: u64,
 }
 
 // An instant: seconds, nanoseconds, and remainder / D of a nanosecond, D being its generator's denominator.
+#[repr(C)]
 pub struct Instant {
     pub seconds: u64,
     pub nanoseconds: u64,
@@ -66,6 +72,7 @@ pub struct Instant {
 
 // An event generator: the pending instant, the interval W + N/D ns, the edges left, the direction of the next edge
 // (0 rising, 1 falling) and the mark; idle is all zeros.
+#[repr(C)]
 pub struct Generator {
     pub pending: Instant,
     pub whole: u64,
@@ -77,12 +84,14 @@ pub struct Generator {
 }
 
 // PTP_IR and PTP_IE: the latched bits and the interrupt mask.
+#[repr(C)]
 pub struct Interrupts {
     pub latched: u64,
     pub enabled: u64,
 }
 
 // Five numbers: the words TEIO1 to TEIO5, and the values v1 to v5 of an outcome.
+#[repr(C)]
 pub struct Words {
     pub w1: u64,
     pub w2: u64,
@@ -92,6 +101,7 @@ pub struct Words {
 }
 
 // The engine record.
+#[repr(C)]
 pub struct Engine {
     pub clock: Clock,
     pub steering: Steering,
@@ -105,6 +115,7 @@ pub struct Engine {
 }
 
 // One line of a command sheet.
+#[repr(C)]
 pub struct Command {
     pub op: u64,
     pub a: u64,

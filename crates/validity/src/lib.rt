@@ -4,6 +4,7 @@
 // copy. Document 01, "Where each command is checked", below the table.
 ghost use mathlib.Core.Path.{_≡_};
 ghost use mathlib.Core.Bool.{_&&_, cond};
+ghost use Prim.Native.Nat.{_<_};
 ghost use lib.Dec.{eqb};
 ghost use Rattle.model.specs.Tests.{every, everyBelow};
 ghost use Rattle.model.specs.Clock.{shown};
@@ -104,31 +105,40 @@ fn see(s: Seen, t: Timestamp, used: bool) -> Seen
     }
 }
 
-// A used place holds a timestamp in range, and any other holds zero.
+// The places of one index: a used one holds a timestamp in range, and any other holds zero.
+fn see_place(s: Seen, fifo1: Fifo, fifo2: Fifo, fifo3: Fifo, place: usize) -> Seen
+    requires { ⌜ place < 8 ⌝ }
+    ensures { λ r. ⌜ inOrder r ≡ (inOrder s && ofThree (λ f. placeOk f place) fifo1 fifo2 fifo3) ⌝ }
+{
+    let n = place as u64;
+    let one = see(s, fifo1.entries[place], n < fifo1.count);
+    let two = see(one, fifo2.entries[place], n < fifo2.count);
+    see(two, fifo3.entries[place], n < fifo3.count)
+}
+
+// All places, each by a constant index, so that the compiler may look at them where they stand.
 fn places_ok(fifo1: Fifo, fifo2: Fifo, fifo3: Fifo) -> bool
     ensures { λ r. ⌜ r ≡ everyBelow 8 (λ i. ofThree (λ f. placeOk f i) fifo1 fifo2 fifo3) ⌝ }
 {
-    let mut seen = Seen {
+    let none = Seen {
         seconds: 0,
         rising: 0,
         rest: 0,
         late: false,
     };
-    let mut place = 0;
-    while place < 8 {
-        let n = place as u64;
-        let one = see(seen, fifo1.entries[place], n < fifo1.count);
-        let two = see(one, fifo2.entries[place], n < fifo2.count);
-        seen = see(two, fifo3.entries[place], n < fifo3.count);
-        if seen.late {
-            return false;
-        }
-        place += 1;
-    }
-    both(
-        seen.rest == 0,
-        both(seen.seconds < SECONDS_LIMIT, seen.rising <= 1),
-    )
+    let to1 = see_place(none, fifo1, fifo2, fifo3, 0);
+    let to2 = see_place(to1, fifo1, fifo2, fifo3, 1);
+    let to3 = see_place(to2, fifo1, fifo2, fifo3, 2);
+    let to4 = see_place(to3, fifo1, fifo2, fifo3, 3);
+    let to5 = see_place(to4, fifo1, fifo2, fifo3, 4);
+    let to6 = see_place(to5, fifo1, fifo2, fifo3, 5);
+    let to7 = see_place(to6, fifo1, fifo2, fifo3, 6);
+    let all = see_place(to7, fifo1, fifo2, fifo3, 7);
+    let seen = both(
+        all.rest == 0,
+        both(all.seconds < SECONDS_LIMIT, all.rising <= 1),
+    );
+    both(fails(all.late), seen)
 }
 
 fn fifos_ok(fifo1: Fifo, fifo2: Fifo, fifo3: Fifo) -> bool

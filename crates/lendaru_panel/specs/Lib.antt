@@ -1,0 +1,2 @@
+-- What a function over a lent record promises.
+pub mod Lent
