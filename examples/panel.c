@@ -54,7 +54,8 @@ int main(void)
 
     if (!run("read", (lendaru_command){2, 16, 2, 0, 0, 0, 0, 0, 0}, &v))
         return 1;
-    printf("timestamp: %" PRIu64 " s %" PRIu64 " ns, %s\n", seconds(&v), nanoseconds(&v), v.w5 >> 15 ? "rising" : "falling");
+    printf("timestamp: %" PRIu64 " s %" PRIu64 " ns, %s\n", seconds(&v), nanoseconds(&v),
+           v.w5 >> 15 ? "rising" : "falling");
     if (!run("interrupts", (lendaru_command){5, 0, 0, 0, 0, 0, 0, 0, 0}, &v))
         return 1;
     printf("interrupts: 0x%04" PRIx64 "\n", v.w1);

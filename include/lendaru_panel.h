@@ -4,7 +4,7 @@
  * for months. Every function here is proved in crates/lendaru_panel to do what is said, for every record and every
  * command. Nothing is allocated, no state is kept beside the record, and no function calls the operating system; of the
  * C library the archive needs memcpy. What a caller owes is what C cannot check: that the pointer names a whole record,
- * and that nothing else reads or writes it during the call. Two records are two engines, and may be used by two threads.
+ * and that nothing else reads or writes it during the call. Two records are two engines, and two threads may use them.
  */
 #ifndef LENDARU_PANEL_H
 #define LENDARU_PANEL_H

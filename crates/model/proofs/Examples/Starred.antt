@@ -1,11 +1,14 @@
--- The starred examples of document 01, "Edges of the rules"; the whole example of "Command sheet" stands at their end.
+-- The starred examples of document 01, "Edges of the rules"; at their end some of "Command sheet" that are not starred,
+-- the whole example among them.
 use Prim.Native.Nat.{ℕ, suc, _+_}
 use mathlib.Core.List.{List, [], _∷_, _++_}
 use mathlib.Core.Bool.{cond}
-use lib.ListN.{replicate}
+use lib.ListN.{length, replicate}
 use lib.Dec.{eqb}
 use Rattle.model.specs.declared.Command.{Command}
 use Rattle.model.specs.Clock.{shown}
+use Rattle.model.specs.Ops.{ops}
+use Rattle.model.specs.Checks.{lastNumber}
 use Rattle.model.specs.Run.{Entry, engineAfter, history}
 use Rattle.model.specs.Text.{bytes}
 use Rattle.model.specs.Sheet.{sheetVerdict}
@@ -89,6 +92,29 @@ starred =
     -- Empty sheet: 2. First line alone: accepted.
     ∷ record { found = verdict []; stated = 1 ∷ 2 ∷ [] }
     ∷ record { found = verdict (bytes "op,a,b,c,d,e,f,g,h\n"); stated = 0 ∷ 0 ∷ [] }
+    -- Not starred: the ops are 0 to 8, and the table of checks ends with 15.
+    ∷ record { found = length ops ∷ lastNumber ∷ []; stated = 9 ∷ 15 ∷ [] }
+    ∷ record { found = answers (line 8 0 0 0 0 0 ∷ line 9 0 0 0 0 0 ∷ []); stated = 0 ∷ 5 ∷ [] }
+    -- Not starred: each input has its FIFO and its selector (eighths 1, 3 and 5 of 8 ns).
+    ∷ record {
+      found =
+          values (line 0 2 4 6 0 0 ∷ read 1 ∷ [])
+          ++ values (line 0 2 4 6 0 0 ∷ read 2 ∷ [])
+          ++ values (line 0 2 4 6 0 0 ∷ read 3 ∷ []);
+      stated = 0 ∷ 0 ∷ 0 ∷ 1 ∷ 0 ∷ 0 ∷ 0 ∷ 0 ∷ 3 ∷ 0 ∷ 0 ∷ 0 ∷ 0 ∷ 5 ∷ 0 ∷ [];
+    }
+    -- Not starred: op 6 sets the mask that op 5 asks (TS1_NE, bit 8, and bit 14), op 7 reads status (FIFO 2, bit 8), op
+    -- 8 shows the words; op 4 stops the train that op 3 armed, which has no edge then.
+    ∷ record {
+      found = values (line 6 256 0 0 0 0 ∷ input 1 ∷ line 5 0 0 0 0 0 ∷ []);
+      stated = (16384 + 256) ∷ 0 ∷ 0 ∷ 0 ∷ 0 ∷ [];
+    }
+    ∷ record { found = values (line 0 0 1 0 0 0 ∷ line 7 0 0 0 0 0 ∷ []); stated = 256 ∷ 0 ∷ 0 ∷ 0 ∷ 0 ∷ [] }
+    ∷ record { found = values (load 1 2 3 4 5 ∷ line 8 0 0 0 0 0 ∷ []); stated = 1 ∷ 2 ∷ 3 ∷ 4 ∷ 5 ∷ [] }
+    ∷ record {
+      found = values (arm 3 256 0 1 1 ∷ line 4 1 0 0 0 0 ∷ tick ∷ []);
+      stated = 0 ∷ 0 ∷ 0 ∷ 0 ∷ 0 ∷ [];
+    }
     -- Not starred: the whole example, byte for byte; lines behind a refused one; a sheet refused at its third line.
     ∷ record {
       found = results (bytes
