@@ -1,10 +1,12 @@
-/* Lendaru on a record that the firmware lends (liblendaru_panel.a, made by `rt staticlib lendaru_panel`; x86-64).
+/* Lendaru on a record that the firmware lends: liblendaru_panel.a, and liblendaru_run.a for lendaru_run (made by
+ * `rt staticlib lendaru_panel` and `rt staticlib lendaru_run`; x86-64). They may be linked together.
  *
- * The firmware owns an engine record, lends it for one command at a time, and finds it advanced; the record may live
- * for months. Every function here is proved in crates/lendaru_panel to do what is said, for every record and every
- * command. Nothing is allocated, no state is kept beside the record, and no function calls the operating system; of the
- * C library the archive needs memcpy. What a caller owes is what C cannot check: that the pointer names a whole record,
- * and that nothing else reads or writes it during the call. Two records are two engines, and two threads may use them.
+ * The firmware owns an engine record, lends it for one command or one run at a time, and finds it advanced; the record
+ * may live for months. Every function here is proved, in crates/lendaru_panel and crates/lendaru_run, to do what is
+ * said, for every record and every command; costs are measured. Nothing is allocated, no state is kept beside the
+ * record, and no function calls the operating system; of the C library the archives need memcpy. What a caller owes is
+ * what C cannot check: that the pointer names a whole record, and that nothing else reads or writes it during the call.
+ * Two records are two engines, and two threads may use them.
  */
 #ifndef LENDARU_PANEL_H
 #define LENDARU_PANEL_H
@@ -136,6 +138,18 @@ lendaru_engine lendaru_power_on(void);
  * your own beside a record in flash; and promises about lists of commands hold for a record that comes from power-on by
  * these calls alone. */
 lendaru_reply lendaru_execute(lendaru_engine *engine, lendaru_command command);
+
+/* A run on the lent record (in liblendaru_run.a): up to `a` ticks without inputs in one call, what lendaru_execute does
+ * with op 9, `a` and seven zeros. It ends after the first tick that places an edge, or before a tick that would pass the
+ * last second. Its cost does not grow with `a` (docs/PERFORMANCE.md).
+ *
+ * Needs: `engine` points to a record, of any content; `a` is any number.
+ *
+ * Leaves: where the run is accepted (answer 0), the record advanced by the ticks done, at least one. The reply has the
+ * last tick's edges of generators 1 and 2 in w1 and w2, as a tick has them, and the ticks done in w3 (low 16 bits) and
+ * w4 (w4 << 16 | w3); w5 is 0. Where it is refused, the record as it was, and five zeros. The answer is then 4 for a
+ * malformed record, 6 where `a` is not 1 to 1,000,000, and 15 where the very first tick would pass the last second. */
+lendaru_reply lendaru_run(lendaru_engine *engine, uint64_t a);
 
 #ifdef __cplusplus
 }

@@ -1,5 +1,5 @@
 /* Holds the two headers to the static libraries: their numbers, and the place of every part of the record, by a tick
- * that was worked out by hand from document 01. reference/run compiles it as C and as C++. */
+ * and by runs that were worked out by hand from the papers. reference/run compiles it as C and as C++. */
 #include <stdio.h>
 
 #include "lendaru.h"
@@ -75,11 +75,45 @@ static int generator_2(const lendaru_generator *g)
     return ok & same("left", 4, g->left) & same("direction", 1, g->direction) & same("mark", 0, g->mark);
 }
 
+static int replied(const char *what, lendaru_reply r, unsigned long long answer, unsigned long long edge2,
+                   unsigned long long low, unsigned long long high)
+{
+    int ok = same(what, answer, r.answer) & same("edge of generator 1", 0, r.values.w1);
+    ok &= same("edge of generator 2", edge2, r.values.w2) & same("ticks, low", low, r.values.w3);
+    return ok & same("ticks, high", high, r.values.w4) & same("value 5", 0, r.values.w5);
+}
+
+/* From the tick above the exact time is 5 s 16 ns and 0x40800020 / 2^32, about 0.252 ns. Two more cycles of 9.252 ns
+ * and 29 of 8 ns bring it to 266.756 ns, past generator 2's instant of 266 + 2/7 ns; the last of them starts at
+ * 258.756 ns, so the edge falls at eighth 7. With the generator stopped, 70,000 cycles are 65,536 + 4,464. */
+static int runs(lendaru_engine *e)
+{
+    static const lendaru_command stop = {4, 2, 0, 0, 0, 0, 0, 0, 0};
+    int ok = replied("no ticks", lendaru_run(e, 0), 6, 0, 0, 0);
+    ok &= replied("too many ticks", lendaru_run(e, 1000001), 6, 0, 0, 0);
+    ok &= same("nanoseconds after refusals", 16, e->clock.nanoseconds);
+    ok &= replied("a run to an edge", lendaru_run(e, 1000000), 0, 1 + 7, 31, 0);
+    ok &= same("seconds after a run", 5, e->clock.seconds) & same("nanoseconds", 266, e->clock.nanoseconds);
+    ok &= same("fraction", 0xC1, e->clock.fraction) & same("remainder", 0x800060, e->clock.remainder);
+    ok &= same("cycles", 0, e->steering.adjustment.cycles) & same("PER_ADJ", 0, e->steering.adjustment.amount);
+    /* TS2_NE, TS3_NE and TAC */
+    ok &= same("latched", 1 << 10 | 1 << 12 | 1, e->interrupts.latched) & same("left", 3, e->generator2.left);
+    ok &= same("stop", 0, lendaru_execute(e, stop).answer);
+    ok &= replied("a run by count", lendaru_run(e, 70000), 0, 0, 4464, 1);
+    ok &= same("nanoseconds", 560266, e->clock.nanoseconds);
+    e->clock.seconds = 0xFFFFFFFFFFFFull;
+    e->clock.nanoseconds = 999999992;
+    ok &= replied("a run at the end of time", lendaru_run(e, 1), 15, 0, 0, 0);
+    e->clock.nanoseconds = 1000000000;
+    return ok & replied("a run on a malformed record", lendaru_run(e, 1), 4, 0, 0, 0);
+}
+
 int main(void)
 {
     lendaru_engine e;
     int ok = numbers() & advanced(&e) & clock_and_words(&e);
     ok &= same("count of FIFO 1", 0, e.fifo1.count) & same("edges left of generator 1", 0, e.generator1.left);
     ok &= holds_one(&e.fifo2, 7, 0) & holds_one(&e.fifo3, 11, 1) & generator_2(&e.generator2);
+    ok &= runs(&e);
     return !ok;
 }

@@ -4,10 +4,12 @@
 //!
 //!     bench            prints the table
 //!     bench FILE       prints one row of it, for the sheet in this file
-//!     bench ROW N WHO  does N units of one row or file, for valgrind to count
+//!     bench ROW N WHO  does N units of one row or file, for valgrind to count (of a row of runs, sheets with N each)
+mod runs;
+
 use engine::{Command, Outcome};
 use reference::record::Record;
-use reference::{engine, tuned};
+use reference::{engine, tuned, tuned_sheet};
 use std::hint::black_box;
 use std::process::Command as Process;
 use std::time::Instant;
@@ -33,6 +35,11 @@ extern "C" {
 extern "C" {
     fn lendaru_power_on() -> Record;
     fn lendaru_execute(e: &mut Record, c: Command) -> Outcome;
+}
+
+#[link(name = "lendaru_run", kind = "static")]
+extern "C" {
+    fn lendaru_run(e: &mut Record, a: u64) -> Outcome;
 }
 
 fn command(op: u64, fields: &[u64]) -> Command {
@@ -141,19 +148,20 @@ fn sheet_of(n: u64, busy: bool) -> Vec<u8> {
     s
 }
 
-/// What a row does: ticks on a load, with check 4 before each or without; a whole sheet again and again; or two
-/// commands by turns on a lent record with a load.
+/// What a row does: ticks on a load, with check 4 before each or without; a whole sheet again and again; two commands
+/// by turns on a lent record with a load; or runs.
 enum Work {
     Ticks(Load, bool),
     Sheet(Vec<u8>),
     Lent(Load, [Command; 2]),
+    Runs(runs::Runs),
 }
-use Work::{Lent, Sheet, Ticks};
+use Work::{Lent, Runs, Sheet, Ticks};
 
-fn rows() -> [(&'static str, Work); 14] {
+fn rows() -> Vec<(&'static str, Work)> {
     let tick = |code| command(0, &[code, code, code]);
     let stored_and_read = [command(0, &[16]), command(2, &[16, 1])];
-    [
+    let mut rows = vec![
         ("tick, idle", Ticks(IDLE, false)),
         ("tick, idle, check 4", Ticks(IDLE, true)),
         ("tick, busy", Ticks(BUSY, false)),
@@ -168,7 +176,9 @@ fn rows() -> [(&'static str, Work); 14] {
         ("command on a lent record, idle tick", Lent(IDLE, [tick(IDLE.code); 2])),
         ("command on a lent record, busy tick", Lent(BUSY, [tick(BUSY.code); 2])),
         ("command on a lent record, timestamp stored and read by turns", Lent(IDLE, stored_and_read)),
-    ]
+    ];
+    rows.extend(runs::rows().into_iter().map(|(name, runs)| (name, Runs(runs))));
+    rows
 }
 
 impl Work {
@@ -183,7 +193,7 @@ impl Work {
     /// How many units come at once: one tick or command, or the lines of a sheet.
     fn whole(&self) -> u64 {
         match self {
-            Ticks(..) | Lent(..) => 1,
+            Ticks(..) | Lent(..) | Runs(_) => 1,
             Sheet(sheet) => sheet.iter().filter(|&&b| b == b'\n').count().max(2) as u64 - 1,
         }
     }
@@ -199,6 +209,7 @@ impl Work {
             Ticks(load, checked) => ticks(n, black_box(*load), *checked, ours),
             Sheet(sheet) => sheets(n.div_ceil(self.whole()), sheet, ours),
             Lent(load, turns) => lent(n, black_box(*load), black_box(turns), ours),
+            Runs(runs) => runs.run(n, ours),
         }
     }
 }
@@ -236,7 +247,7 @@ fn sheets(times: u64, sheet: &[u8], ours: bool) {
             // SAFETY: both are slices of Rust, and they do not overlap.
             black_box(unsafe { lendaru_run_sheet(sheet.as_ptr(), sheet.len(), out.as_mut_ptr(), out.len()) });
         } else {
-            tuned::results(black_box(sheet), &mut commands, &mut text);
+            tuned_sheet::results(black_box(sheet), &mut commands, &mut text);
             black_box(&text);
         }
     }
@@ -245,6 +256,9 @@ fn sheets(times: u64, sheet: &[u8], ours: bool) {
 /// Nanoseconds of a unit, Lendaru's and the tuned engine's: the best of many short runs by turns, so that a change of
 /// the machine's clock meets both.
 fn nanoseconds(row: &Work) -> [f64; 2] {
+    if let Runs(runs) = row {
+        return runs.nanoseconds();
+    }
     let units = row.units(30_000) as f64;
     let mut best = [f64::INFINITY; 2];
     for _ in 0..60 {
@@ -272,17 +286,29 @@ fn instructions(row: &str, ours: bool) -> Option<f64> {
         line.split(':').nth(1)?.trim().parse().ok()
     };
     let work = Work::named(row);
-    let units = work.units(36_000) - work.units(18_000);
-    Some((count(36_000)? - count(18_000)?) / units as f64)
+    let ([few, many], units) = match &work {
+        Runs(runs) => (runs.counts(ours), runs.units(ours)),
+        _ => ([18_000, 36_000], (work.units(36_000) - work.units(18_000)) as f64),
+    };
+    Some((count(many)? - count(few)?) / units)
 }
 
 fn print_row(name: &str, row: &str) {
     let [a, b] = nanoseconds(&Work::named(row));
     let counted = match (instructions(row, true), instructions(row, false)) {
-        (Some(x), Some(y)) => format!("{x:.0} | {y:.0} | {:.2}", x / y),
+        (Some(x), Some(y)) => format!("{x:.0} | {y:.0} | {}", ratio(x / y)),
         _ => "- | - | -".to_string(),
     };
-    println!("| {name} | {a:.1} | {b:.1} | {:.2} | {counted} |", a / b);
+    println!("| {name} | {a:.1} | {b:.1} | {} | {counted} |", ratio(a / b));
+}
+
+/// Two digits behind the point, and more where they would all be 0.
+fn ratio(x: f64) -> String {
+    if x < 0.01 {
+        format!("{x:.6}")
+    } else {
+        format!("{x:.2}")
+    }
 }
 
 fn main() {

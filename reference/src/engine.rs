@@ -1,4 +1,4 @@
-//! The engine: clock, stampers, generators, interrupt bits, and the nine commands.
+//! The engine: clock, stampers, generators, interrupt bits, and the ten commands.
 use crate::generator::Generator;
 use std::collections::VecDeque;
 
@@ -99,7 +99,7 @@ impl Engine {
     }
 
     pub fn execute(&mut self, c: &Command) -> Outcome {
-        if c.op > 8 {
+        if c.op > 9 {
             return refuse(5);
         }
         if !fields_listed(c) {
@@ -130,7 +130,8 @@ impl Engine {
                 let full = |i: usize| u64::from(!self.stampers[i].is_empty());
                 accept([full(0) << 7 | full(1) << 8 | full(2) << 9, 0, 0, 0, 0])
             }
-            _ => accept(self.words),
+            8 => accept(self.words),
+            _ => self.run(c.f[0]),
         }
     }
 
@@ -155,6 +156,23 @@ impl Engine {
         }
         self.exact = next;
         accept([v1, v2, 0, 0, 0])
+    }
+
+    /// Ticks without inputs, one by one, at most so many: up to the first that places an edge or would get 15.
+    fn run(&mut self, most: u64) -> Outcome {
+        let mut out = refuse(15);
+        for done in 1..=most {
+            let tick = self.tick(&[0; 8]);
+            if tick.answer != 0 {
+                break;
+            }
+            let [v1, v2, ..] = tick.values;
+            out = accept([v1, v2, done % 65536, done / 65536, 0]);
+            if v1 != 0 || v2 != 0 {
+                break;
+            }
+        }
+        out
     }
 
     fn capture(&mut self, i: usize, code: u64, shown: u128, step: u128) {
@@ -278,6 +296,7 @@ fn fields_listed(c: &Command) -> bool {
         ),
         4 => (1, [1, 2].contains(&f[0])),
         6 => (1, f[0] & !0x3F7F == 0),
+        9 => (1, (1..=1_000_000).contains(&f[0])),
         _ => (0, true),
     };
     good && f[listed..].iter().all(|&x| x == 0)

@@ -1,6 +1,9 @@
 //! The ledger of demand 3, kept from commands, answers and values alone, and its three bullets as assertions.
 use crate::engine::{Command, Outcome};
 
+/// The first time that cannot be shown, in 2^-32 ns.
+const END: u128 = (1_000_000_000 << 48) << 32;
+
 /// What a generator was ordered to do, and how many of its edges have come.
 #[derive(Clone, Copy)]
 struct Order {
@@ -56,7 +59,7 @@ impl Ledger {
             return;
         }
         match c.op {
-            0 => self.tick(o),
+            0 => self.tick(o.values[0], o.values[1]),
             1 => self.words.copy_from_slice(&c.f[..5]),
             2 => {
                 self.write(c.f[0]);
@@ -70,6 +73,7 @@ impl Ledger {
                     Some(Order { start: s * 1_000_000_000 + ns, whole, num, den, count, edges: 0 });
             }
             4 => self.orders[c.f[0] as usize - 1] = None,
+            9 => self.run(c.f[0], o),
             _ => {}
         }
     }
@@ -92,16 +96,39 @@ impl Ledger {
         }
     }
 
-    fn tick(&mut self, o: &Outcome) {
-        let amount = if self.owed > 0 { self.per_adj } else { self.period };
+    /// What is ordered for the next tick.
+    fn amount(&self) -> u128 {
+        if self.owed > 0 {
+            self.per_adj
+        } else {
+            self.period
+        }
+    }
+
+    /// Op 0's step, with the codes that the tick returned for generators 1 and 2.
+    fn tick(&mut self, v1: u64, v2: u64) {
+        let amount = self.amount();
         self.owed = self.owed.saturating_sub(1);
-        for g in 0..2 {
-            match o.values[g] {
-                0 => {}
-                code => self.edge(g, code, amount),
+        for (g, code) in [v1, v2].into_iter().enumerate() {
+            if code != 0 {
+                self.edge(g, code, amount);
             }
         }
         self.time += amount;
+    }
+
+    /// Op 0's step as often as v3 and v4 say; an edge is the last tick's.
+    fn run(&mut self, most: u64, o: &Outcome) {
+        let [v1, v2, v3, v4, v5] = o.values;
+        assert!(v3 < 65536 && v5 == 0, "the ticks done are in two words, and v5 is 0");
+        let done = v3 + v4 * 65536;
+        assert!((1..=most).contains(&done), "from one tick to as many as were asked for");
+        for _ in 1..done {
+            self.tick(0, 0);
+        }
+        self.tick(v1, v2);
+        let at_the_end = self.time + self.amount() >= END;
+        assert!(done == most || v1 != 0 || v2 != 0 || at_the_end, "a run ends early at an edge, or before 15");
     }
 
     /// An edge that a tick returned, with the exact time at its start and its amount: bullets 2 and 3.

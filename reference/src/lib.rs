@@ -8,4 +8,6 @@ pub mod ledger;
 pub mod random;
 pub mod record;
 pub mod sheet;
+pub mod tally;
 pub mod tuned;
+pub mod tuned_sheet;

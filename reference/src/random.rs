@@ -1,4 +1,5 @@
 //! Random numbers and random sheets, the same for the same seed.
+use crate::engine::{Command, Engine};
 
 /// splitmix64.
 pub struct Random(pub u64);
@@ -27,7 +28,7 @@ impl Random {
 
     /// A number of any size, often at a limit.
     pub fn hostile(&mut self) -> u64 {
-        let edge = [0, 1, 2, 8, 9, 16, 17, 255, 256, 65535, 65536, 999_999_999, 1_000_000_000, 1 << 24];
+        let edge = [0, 1, 2, 8, 9, 10, 16, 17, 255, 256, 65535, 65536, 999_999_999, 1_000_000_000, 1 << 24];
         let large = [u64::MAX, u64::MAX - 1, 1 << 32, (1 << 32) - 1, 1 << 48, (1 << 48) - 1, 0x3F7F, 0x4000, 0x80];
         match self.below(4) {
             0 => self.one_of(&edge),
@@ -40,13 +41,42 @@ impl Random {
         }
     }
 
+    /// Below the nanoseconds of some ticks, or of a long run.
+    fn span(&mut self) -> u64 {
+        let most = self.one_of(&[3000, 3000, 3000, 100_000, 10_000_000]);
+        self.below(most)
+    }
+
+    /// How many ticks a run line asks for: mostly few, and about the limits.
+    fn cycles(&mut self) -> u64 {
+        match self.below(200) {
+            0..=159 => 1 + self.below(400),
+            160..=189 => 1 + self.below(10_000),
+            190..=192 => 1 + self.below(1_000_000),
+            193 => self.one_of(&[65_535, 65_536, 65_537, 999_999, 1_000_000]),
+            194..=196 => self.one_of(&[0, 1, 1_000_001]),
+            // allowed, were it not for a high bit
+            197 => 1 << (20 + self.below(44)) | self.below(400),
+            _ => self.hostile(),
+        }
+    }
+
     fn words(&mut self) -> [u64; 5] {
         let mut w = [0; 5].map(|_| self.below(65536));
         match self.below(6) {
-            // an amount of some nanoseconds, with a small count
-            0 | 1 => w = [0, 1 + self.below(30), self.below(256) << 8, w[3], (1 + self.below(40)) << 8 | w[4] & 255],
-            // near the end of time
-            2 => w = [65535, 65535, 65535, 51_711 - self.below(3000), 15_258],
+            // an amount of some nanoseconds, with a count that ticks use up, or only runs
+            0 | 1 => {
+                let (most, ns) = (self.one_of(&[30, 30, 2000, 65_535]), self.one_of(&[40, 40, 255]));
+                w = [0, 1 + self.below(most), self.below(256) << 8, w[3], (1 + self.below(ns)) << 8 | w[4] & 255];
+                if self.chance(5) {
+                    w[2] |= self.below(20);
+                }
+            }
+            // near the end of time, or of second 0
+            2 => {
+                let (sec, ns) = (self.one_of(&[65535, 0]), 999_999_999 - self.span());
+                w = [sec, sec, sec, ns % 65536, ns / 65536];
+            }
             // a time in range
             3 => w[4] = self.below(15_258),
             4 => w = [0, self.below(3), self.below(2) << 8, w[3], self.below(3) << 8],
@@ -58,31 +88,41 @@ impl Random {
     pub fn command(&mut self) -> [u64; 9] {
         let mut c = [0; 9];
         match self.below(100) {
-            0..=54 => {
+            0..=39 => {
                 for i in 1..4 {
                     if self.chance(20) {
                         c[i] = self.below(17);
                     }
                 }
             }
+            40..=54 => {
+                c[0] = 9;
+                c[1] = self.cycles();
+            }
             55..=64 => {
                 c[0] = 1;
                 c[1..6].copy_from_slice(&self.words());
             }
-            65..=77 => {
+            65..=76 => {
                 c[0] = 2;
                 c[1] = self.one_of(&[0, 1, 1, 2, 2, 16, 16, 16]);
                 c[2] = self.one_of(&[0, 1, 2, 3, 8, 8]);
             }
-            78..=85 => {
+            77..=85 => {
                 c[0] = 3;
                 c[1] = 1 + self.below(2);
-                c[2] = self.one_of(&[0, 0, 0, 0, (1 << 48) - 1]);
-                c[3] = self.below(3000);
-                c[4] = 256 + self.below(400);
+                // near the start of a second, or near its end
+                c[2] = self.one_of(&[0, 0, 0, 0, 1, (1 << 48) - 1]);
+                c[3] = self.span();
+                if self.chance(20) {
+                    c[3] = 999_999_999 - c[3];
+                }
+                let most = self.one_of(&[400, 400, 400, 400, 5000, 100_000, 999_999_744]);
+                c[4] = 256 + self.below(most);
                 c[6] = 1 + self.hostile() % ((1 << 32) - 1);
                 c[5] = self.below(c[6] + 1);
-                c[7] = 1 + self.below(9);
+                let most = self.one_of(&[9, 9, 9, 1000]);
+                c[7] = 1 + self.below(most);
                 c[8] = self.below(2);
             }
             86..=88 => {
@@ -104,6 +144,34 @@ impl Random {
         c
     }
 
+    /// A command at this time shown: a generator is often armed for an instant about it, or within a run from it.
+    pub fn command_at(&mut self, seconds: u64, nanoseconds: u64) -> Command {
+        let mut c = self.command();
+        if c[0] == 3 && self.chance(80) {
+            let ahead = self.one_of(&[3, 700, 700, 700, 20_000, 5_000_000]);
+            let start = (nanoseconds + self.below(ahead)).saturating_sub(u64::from(ahead == 3));
+            (c[2], c[3]) = (seconds + start / 1_000_000_000, start % 1_000_000_000);
+            match self.below(4) {
+                // its second instant meets the second's end
+                0 => (c[4], c[5]) = (1_000_000_000 - c[3], 0),
+                // in step with the other, if that is too
+                1 => [c[3], c[4], c[5], c[6]] = [c[3] / 256 * 256 + 256, 256, 0, 1],
+                _ => {}
+            }
+        }
+        let [op, f @ ..] = c;
+        Command { op, f }
+    }
+
+    /// How often a command comes in a row: ticks sometimes many times, and runs some, from edge to edge.
+    pub fn times(&mut self, c: &Command, many: u64) -> u64 {
+        match c.op {
+            0 => self.one_of(&[1, 1, 1, many]),
+            9 if c.f[0] <= 10_000 => self.one_of(&[1, 1, 5]),
+            _ => 1,
+        }
+    }
+
     /// A sheet: some are damaged, some too long, some no sheet at all.
     pub fn sheet(&mut self) -> Vec<u8> {
         if self.chance(3) {
@@ -111,13 +179,15 @@ impl Random {
         }
         let mut text = b"op,a,b,c,d,e,f,g,h\n".to_vec();
         let most = self.one_of(&[0, 1, 3, 30, 300, 3000]);
+        let mut engine = Engine::new();
         for _ in 0..self.below(most + 1) {
-            let c = self.command();
-            let line = c.map(|n| n.to_string()).join(",") + "\n";
-            let times = if c[0] == 0 { self.one_of(&[1, 1, 1, 40]) } else { 1 };
-            for _ in 0..times {
+            let shown = engine.shown() >> 8;
+            let c = self.command_at((shown / 1_000_000_000) as u64, (shown % 1_000_000_000) as u64);
+            let line = c.f.iter().fold(c.op.to_string(), |line, n| format!("{line},{n}")) + "\n";
+            for _ in 0..self.times(&c, 40) {
                 if text.len() + line.len() <= 65536 {
                     text.extend_from_slice(line.as_bytes());
+                    engine.execute(&c);
                 }
             }
         }

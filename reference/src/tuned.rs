@@ -47,7 +47,7 @@ pub struct Engine {
     fifos: [Fifo; 3],
 }
 
-const fn refuse(answer: u64) -> Outcome {
+pub(crate) const fn refuse(answer: u64) -> Outcome {
     Outcome { answer, values: [0; 5] }
 }
 
@@ -140,7 +140,7 @@ impl Engine {
     #[inline]
     pub fn execute(&mut self, c: &Command) -> Outcome {
         if c.op > 8 {
-            return refuse(5);
+            return self.run_line(c);
         }
         if !fields_listed(c) {
             return refuse(6);
@@ -176,7 +176,8 @@ impl Engine {
         }
     }
 
-    #[inline]
+    /// Compiled into its two callers, as `generate` is, so that neither a command nor a run pays for the other.
+    #[inline(always)]
     fn tick(&mut self, f: &[u64; 8]) -> Outcome {
         let amount = if self.cycles != 0 { self.adjust } else { self.period };
         let shown = self.sub >> 24;
@@ -207,6 +208,38 @@ impl Engine {
         accept([v1, v2, 0, 0, 0])
     }
 
+    /// Op 9, and what is no op: by itself, so that the other ops cost what they cost without it.
+    #[inline(never)]
+    fn run_line(&mut self, c: &Command) -> Outcome {
+        if c.op > 9 {
+            return refuse(5);
+        }
+        if c.f[1..].iter().fold(0, |a, &x| a | x) != 0 {
+            return refuse(6);
+        }
+        self.run(c.f[0])
+    }
+
+    /// Ticks without inputs, at most so many, up to an edge or the end of time.
+    pub fn run(&mut self, most: u64) -> Outcome {
+        if !(1..=1_000_000).contains(&most) {
+            return refuse(6);
+        }
+        let (mut done, mut v1, mut v2) = (0, 0, 0);
+        while done < most && v1 | v2 == 0 {
+            let tick = self.tick(&[0; 8]);
+            if tick.answer != 0 {
+                break;
+            }
+            done += 1;
+            [v1, v2, ..] = tick.values;
+        }
+        if done == 0 {
+            return refuse(15);
+        }
+        accept([v1, v2, done & 0xFFFF, done >> 16, 0])
+    }
+
     fn capture(&mut self, i: usize, code: u64, shown: u64, step: u64) {
         let fifo = &mut self.fifos[i];
         if fifo.count == 8 {
@@ -226,7 +259,7 @@ impl Engine {
         fifo.count += 1;
     }
 
-    #[inline]
+    #[inline(always)]
     fn generate(&mut self, i: usize, shown: u64, step: u64) -> u64 {
         let g = &mut self.generators[i];
         if g.left == 0 || g.sec > self.sec + 1 {
@@ -371,77 +404,5 @@ fn fields_listed(c: &Command) -> bool {
         4 => (1..=2).contains(&f[0]) && zero(1),
         6 => f[0] & !0x3F7F == 0 && zero(1),
         _ => zero(0),
-    }
-}
-
-fn command(line: &[u8], at: &mut usize) -> Option<Command> {
-    let mut n = [0u64; 9];
-    for (i, n) in n.iter_mut().enumerate() {
-        let start = *at;
-        let mut v = 0u64;
-        while let Some(d @ b'0'..=b'9') = line.get(*at) {
-            v = v.checked_mul(10)?.checked_add(u64::from(d - b'0'))?;
-            *at += 1;
-        }
-        if *at == start || (line[start] == b'0' && *at > start + 1) {
-            return None;
-        }
-        if *line.get(*at)? != if i < 8 { b',' } else { b'\n' } {
-            return None;
-        }
-        *at += 1;
-        *n = v;
-    }
-    let [op, f @ ..] = n;
-    Some(Command { op, f })
-}
-
-fn put(out: &mut Vec<u8>, n: u64, end: u8) {
-    if n < 10 {
-        out.extend_from_slice(&[b'0' + n as u8, end]);
-        return;
-    }
-    let mut digits = [end; 21];
-    let mut at = 20;
-    let mut n = n;
-    while n != 0 {
-        at -= 1;
-        digits[at] = b'0' + (n % 10) as u8;
-        n /= 10;
-    }
-    out.extend_from_slice(&digits[at..]);
-}
-
-fn put_line(out: &mut Vec<u8>, line: u64, o: &Outcome) {
-    put(out, line, b',');
-    put(out, o.answer, b',');
-    for i in 0..5 {
-        put(out, o.values[i], if i < 4 { b',' } else { b'\n' });
-    }
-}
-
-/// What the runner prints, into a buffer that is used again; the record is checked at every line, as the table says.
-pub fn results(sheet: &[u8], commands: &mut Vec<Command>, out: &mut Vec<u8>) {
-    const FIRST: &[u8] = b"op,a,b,c,d,e,f,g,h\n";
-    out.clear();
-    commands.clear();
-    out.extend_from_slice(b"line,answer,v1,v2,v3,v4,v5\n");
-    if sheet.len() > 65536 {
-        return put_line(out, 0, &refuse(1));
-    }
-    if !sheet.starts_with(FIRST) {
-        return put_line(out, 1, &refuse(2));
-    }
-    let mut at = FIRST.len();
-    while at < sheet.len() {
-        match command(sheet, &mut at) {
-            Some(c) => commands.push(c),
-            None => return put_line(out, commands.len() as u64 + 2, &refuse(3)),
-        }
-    }
-    let mut e = Engine::new();
-    for (i, c) in commands.iter().enumerate() {
-        let o = if e.is_valid() { e.execute(c) } else { refuse(4) };
-        put_line(out, i as u64 + 2, &o);
     }
 }

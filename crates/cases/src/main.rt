@@ -22,6 +22,7 @@ fn edges() {
     run(b"edge_W_255_and_256.csv");
     run(b"edge_adjust_one_cycle.csv");
     run(b"edge_frac_half_of_a_256th.csv");
+    run(b"edge_frac_one.csv");
     run(b"edge_fresh_one_tick.csv");
     run(b"edge_generator_of_thirds.csv");
     run(b"edge_ninth_timestamp.csv");
@@ -63,6 +64,7 @@ fn numbers() {
     run(b"number_06_command.csv");
     run(b"number_06_load.csv");
     run(b"number_06_others.csv");
+    run(b"number_06_run.csv");
     run(b"number_06_tick.csv");
     run(b"number_07.csv");
     run(b"number_08.csv");
@@ -91,6 +93,22 @@ fn runs() {
     run(b"run_tick_in_the_last_second.csv");
     run(b"run_trains_meet_the_end.csv");
     run(b"run_words_of_a_read.csv");
+}
+
+// Run lines.
+fn run_lines() {
+    run(b"runline_edges_in_an_adjustment.csv");
+    run(b"runline_ended_by_both.csv");
+    run(b"runline_ended_by_count.csv");
+    run(b"runline_ended_by_generator_1.csv");
+    run(b"runline_ended_by_generator_2.csv");
+    run(b"runline_ended_by_the_end_of_time.csv");
+    run(b"runline_largest_PERIOD.csv");
+    run(b"runline_marked_edges.csv");
+    run(b"runline_over_a_second.csv");
+    run(b"runline_over_an_adjustment.csv");
+    run(b"runline_remainder_carries.csv");
+    run(b"runline_timestamps_stay.csv");
 }
 
 // The sheet as a whole: number 2, and what is just allowed.
@@ -208,6 +226,7 @@ fn main() {
     lines();
     numbers();
     runs();
+    run_lines();
     sheets();
     sizes();
     malformed_numbers();

@@ -3,14 +3,15 @@
 use Prim.Native.Nat.{ℕ, _<_}
 use mathlib.Core.Path.{_≡_, refl}
 use mathlib.Core.List.{List, [], _∷_}
-use mathlib.Core.Bool.{Bool, true, false, not, cond}
+use mathlib.Core.Bool.{Bool, true, false, _||_, not, cond, and-false}
 use native.Mathlib.Omega.{arith}
-use borrow.Author.Tests.{ne-eqb}
+use lib.Dec.{eqb, ltb}
+use borrow.Author.Tests.{ltb-true, ne-eqb}
 use Rattle.model.specs.declared.Engine.{Engine}
 use Rattle.model.specs.declared.Command.{Command}
 use Rattle.model.specs.Tests.{Check, firstFailed}
 use Rattle.model.specs.Ranges.{valid}
-use Rattle.model.specs.Checks.{laterRows, checked, checks, answerOf}
+use Rattle.model.specs.Checks.{laterRows, checked, checks, answerOf, passes}
 use Rattle.checks.specs.First.{firstOf}
 
 -- what the lines of a list make of the answer so far
@@ -41,3 +42,25 @@ first-found (k ∷ ks) p = go (k .holds) (first-found ks (p .1))
 pub answer-found : (e : Engine) (c : Command) → valid e ≡ true → throughList 0 (checked e c laterRows) ≡ answerOf e c
 unfolding answerOf checks
 answer-found e c v = rw v (first-found (checked e c laterRows) (omega arith))
+
+-- an answer that a check leaves as it is
+first-holds : (answer n : ℕ) → firstOf answer n true ≡ answer
+first-holds answer n = rw (and-false (eqb answer 0))
+
+-- an op below 2 or above 3 is neither
+pub neither-op : (n : ℕ) → (ltb n 2 || ltb 3 n) ≡ true → (eqb n 2 ≡ false) × (eqb n 3 ≡ false)
+neither-op n h = by (ltb n 2) refl h
+  where
+    by : (b : Bool) → ltb n 2 ≡ b → (b || ltb 3 n) ≡ true → (eqb n 2 ≡ false) × (eqb n 3 ≡ false)
+    by true l r =
+        let low = ltb-true n 2 l in
+        (ne-eqb n 2 (λ z. omega arith), ne-eqb n 3 (λ z. omega arith))
+    by false l r =
+        let high = ltb-true 3 n r in
+        (ne-eqb n 2 (λ z. omega arith), ne-eqb n 3 (λ z. omega arith))
+
+-- numbers 7 to 14 apply to ops 2 and 3 alone
+pub answer-of-others : (e : Engine) (c : Command) → valid e ≡ true → eqb (c .op) 2 ≡ false → eqb (c .op) 3 ≡ false
+    → firstOf (firstOf (firstOf 0 5 (passes e c 5)) 6 (passes e c 6)) 15 (passes e c 15) ≡ answerOf e c
+unfolding checks
+answer-of-others e c v two three = simp (two, three, first-holds) at (answer-found e c v)

@@ -1,4 +1,4 @@
--- An accepted command that is no tick; and one command on a valid record: the model's outcome, with a record that is
+-- An accepted command that is neither a tick nor a run; and one command on a valid record: the model's outcome, with a record that is
 -- valid again.
 use mathlib.Core.Path.{_≡_}
 use mathlib.Core.Bool.{true, false}
@@ -13,6 +13,7 @@ use Rattle.model.specs.Execute.{execute}
 pub record Ordered (e : Engine) (c : Command) : Type 0 where
   pub passed : answerOf e c ≡ 0
   pub order : eqb (c .op) 0 ≡ false
+  pub noRun : eqb (c .op) 9 ≡ false
 
 pub record Stepped (e : Engine) (c : Command) (r : Outcome) : Type 0 where
   pub is : r ≡ execute e c

@@ -1,9 +1,10 @@
 // The field lists: number 6. One function for each op's list, and one choice among them. Each returns a definition
-// of the model's specs/Fields.antt. Document 01, "Command sheet": unlisted fields must be 0.
+// of the model's specs/Fields.antt. Document 01, "Command sheet": unlisted fields must be 0; op 9, document
+// 02, A.1.
 ghost use mathlib.Core.Path.{_≡_};
 ghost use Rattle.model.specs.Tests.{every};
 ghost use Rattle.model.specs.Fields.{zeroFromF, zeroFromD, zeroFromB, isGenerator, tickFields, loadFields};
-ghost use Rattle.model.specs.Fields.{commandFields, armFields, stopFields, maskFields, noFields, fieldsOk};
+ghost use Rattle.model.specs.Fields.{commandFields, armFields, stopFields, maskFields, noFields, runFields, fieldsOk};
 use model::Command;
 use model::ENABLED_MASK;
 use model::LONG_LIMIT;
@@ -105,6 +106,13 @@ fn no_fields(c: Command) -> bool
     both(c.a == 0, zero_from_b(c))
 }
 
+// Op 9: the ticks.
+pub fn run_fields(c: Command) -> bool
+    ensures { λ r. ⌜ r ≡ every (runFields c) ⌝ }
+{
+    both(1 <= c.a, both(c.a <= 1_000_000, zero_from_b(c)))
+}
+
 // The list of the command's op.
 pub fn fields_ok(c: Command) -> bool
     ensures { λ r. ⌜ r ≡ fieldsOk c ⌝ }
@@ -120,6 +128,7 @@ pub fn fields_ok(c: Command) -> bool
         6 => mask_fields(c),
         7 => no_fields(c),
         8 => no_fields(c),
+        9 => run_fields(c),
         _ => no_fields(c),
     }
 }

@@ -47,7 +47,7 @@ fn change_of(e: Engine, c: Command) -> Change
 }
 
 // What a change tells the caller.
-fn reply_of(m: Change) -> Reply
+pub fn reply_of(m: Change) -> Reply
     ensures { λ r. ⌜ r ≡ replyOf m ⌝ }
 {
     let values = m.values;

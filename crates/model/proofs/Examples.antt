@@ -1,5 +1,5 @@
--- The examples, as one list proved by one statement: the starred ones of document 01, and each cell of its tables of
--- words. Each holds because the definitions compute: a run from power-on gives the numbers that the document states.
+-- The examples, as one list proved by one statement: the starred ones of document 01, each cell of its tables of
+-- words, and run lines. Each holds because the definitions compute: a run from power-on gives the numbers that the document states.
 use Prim.Native.Nat.{ℕ}
 use mathlib.Core.Path.{_≡_, refl}
 use mathlib.Core.List.{List, [], _∷_, _++_, map}
@@ -13,6 +13,7 @@ use Rattle.model.specs.Generator
 use Rattle.model.specs.Interrupts
 use Rattle.model.specs.Record
 use Rattle.model.specs.Tick
+use Rattle.model.specs.RunLine
 use Rattle.model.specs.Orders
 use Rattle.model.specs.Ops
 use Rattle.model.specs.Ranges
@@ -27,13 +28,15 @@ use Rattle.model.proofs.Laws.Tests.{both}
 use Rattle.model.proofs.Examples.Runs.{Example, answers, lastValues, values}
 use Rattle.model.proofs.Examples.Starred.{shownAfter, edgeAt, edgesFrom, verdict, starred}
 use Rattle.model.proofs.Examples.Cells.{timeCell, amountCell, countCell, refusedCell, cells}
--- commands, the two parts of the list
+use Rattle.model.proofs.Examples.RunLines.{runLines}
+-- commands, the three parts of the list
 pub mod Runs
 pub mod Starred
 pub mod Cells
+pub mod RunLines
 
 pub examples : List Example
-examples = starred ++ cells
+examples = starred ++ cells ++ runLines
 
 -- two lists of numbers are compared number by number, so that a list that is not as stated fails at once
 same : List ℕ → List ℕ → Bool
@@ -64,7 +67,7 @@ stated-equal (x ∷ xs) h =
     rw (same-equal (x .found) (x .stated) (t .0), stated-equal xs (t .1))
 
 examples-tested : asStated examples ≡ true
-unfolding examples starred cells timeCell amountCell countCell refusedCell asStated same answers lastValues values
+unfolding examples starred cells runLines timeCell amountCell countCell refusedCell asStated same answers lastValues values
     shownAfter edgeAt edgesFrom verdict engineFrom historyFrom Words.secondsIn Words.nanosecondsIn
     Words.aboveNanoseconds Words.wholeIn Words.fracIn Words.amountIn Words.belowFrac Words.countIn Words.timeWords
     Clock.cycleAmount Clock.stepBy Clock.remainderBy Clock.ticked Clock.spent Clock.lastCycle Clock.steeringAfter
@@ -74,7 +77,8 @@ unfolding examples starred cells timeCell amountCell countCell refusedCell asSta
     Interrupts.anyBoth Interrupts.interruptWord Interrupts.statusWord Interrupts.onlyBits Record.powerOn
     Ranges.clockOk Ranges.adjustmentOk Ranges.steeringOk Ranges.timestampOk Ranges.placeOk Ranges.fifoOk
     Ranges.generatorOk Ranges.interruptsOk Ranges.wordsOk Ranges.valid Fields.fieldTests Fields.fieldsOk Checks.checks
-    Checks.answerOf Tick.tickEvents Tick.tickEngine Tick.tickValues Orders.written Orders.readWords Orders.readEngine
+    Checks.answerOf Tick.tickEvents Tick.tickEngine Tick.tickValues RunLine.hasEnded RunLine.oneMore
+    RunLine.run RunLine.ran Orders.written Orders.readWords Orders.readEngine
     Orders.commanded Orders.interruptsRead Orders.statusOf Ops.performed Execute.execute Text.isValue Sheet.isLine
     Sheet.sheetVerdict Sheet.commandsIn Text.decimal Results.results
 examples-tested = refl

@@ -8,6 +8,7 @@ pub mod Tick
 -- the invariant, and each op; then every command, and every list
 pub mod Agrees
 pub mod OnTick
+pub mod OnRun
 pub mod OnWords
 pub mod OnOrder
 pub mod OnCommand

@@ -17,9 +17,15 @@ pub mod Bits
 pub mod Checks
 pub mod Parts
 pub mod Interrupts
+pub mod Tick
+pub mod RunTicks
 pub mod Valid
 pub mod Ticks
 pub mod Outcomes
+-- ticks by formula: the clock and the steering, the record; a run line by `execute` alone
+pub mod Cycles
+pub mod Elapse
+pub mod RunLine
 -- fractions, and the lag of an edge
 pub mod Fractions
 pub mod Lag

@@ -2,6 +2,7 @@
 pub mod Demand1
 pub mod Demand2
 pub mod Demand3
+pub mod RunLines
 pub mod Sheets
 pub mod Examples
 pub mod Laws

@@ -1,8 +1,8 @@
 -- How the ledger is told a command: its fields, its answer and its five values, and nothing else. Document 01, "The
--- ledger of demand 3".
-use Prim.Native.Nat.{ℕ, _-_}
+-- ledger of demand 3"; of op 9, document 02, A.1.
+use Prim.Native.Nat.{ℕ, _+_, _*_, _-_, _^_}
 use mathlib.Core.List.{List, [], _∷_}
-use mathlib.Core.Bool.{_&&_, cond}
+use mathlib.Core.Bool.{cond}
 use lib.Dec.{eqb}
 use lib.ListN.{getD}
 use Rattle.model.specs.declared.Command.{Command}
@@ -13,9 +13,17 @@ use Rattle.model.specs.Run.{Entry, history}
 use Rattle.model.specs.Ledger.{Edge, Ledger, none, openLedger, ordered, orderOf, ledgerTicks, ledgerEdges}
 use Rattle.model.specs.Ledger.{ledgerWords, ledgerCommanded, ledgerOrder}
 
--- how many ticks an entry of the history stands for: an accepted op 0 is one
+-- the ticks that a run line tells: low 16 bits in v3, the rest in v4 (document 02, A.1)
+abbrev pub ticksTold : Words → ℕ
+ticksTold v = v .w3 + v .w4 * 2 ^ 16
+
+-- how many ticks a command of this op stands for: op 0 is one, and op 9 as many as it tells
+abbrev pub ticksOf : ℕ → Words → ℕ
+ticksOf op v = cond (eqb op 0) 1 (cond (eqb op 9) (ticksTold v) 0)
+
+-- how many ticks an entry of the history stands for
 abbrev pub ticksIn : Entry → ℕ
-ticksIn x = cond (eqb (x .answer) 0 && eqb (x .command .op) 0) 1 0
+ticksIn x = cond (eqb (x .answer) 0) (ticksOf (x .command .op) (x .values)) 0
 
 -- the ledger before the last of them
 abbrev pub beforeLast : Ledger → Entry → Ledger
@@ -47,6 +55,9 @@ ticksBooked l x =
 abbrev pub wordsLoaded : Command → Words
 wordsLoaded c = five (c .a) (c .b) (c .c) (c .d) (c .e)
 
+abbrev pub unbooked : Ledger → Entry → Ledger
+unbooked l x = l
+
 -- an accepted command, by the number of its op; any other op changes nothing
 abbrev pub bookings : List (Ledger → Entry → Ledger)
 bookings =
@@ -55,10 +66,12 @@ bookings =
     ∷ (λ l x. ledgerCommanded l (x .command .a) (x .command .b) (x .values))
     ∷ (λ l x. ledgerOrder l (x .command .a) (orderOf (x .command)))
     ∷ (λ l x. ledgerOrder l (x .command .a) none)
+    ∷ unbooked
+    ∷ unbooked
+    ∷ unbooked
+    ∷ unbooked
+    ∷ ticksBooked
     ∷ []
-
-abbrev pub unbooked : Ledger → Entry → Ledger
-unbooked l x = l
 
 unfoldable pub booked : Ledger → Entry → Ledger
 booked l x = getD bookings (x .command .op) unbooked l x

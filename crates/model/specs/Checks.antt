@@ -37,6 +37,10 @@ writes n c = isOp 2 c && eqb (c .a) n
 abbrev pub writesAmount : Command → Bool
 writesAmount c = writes 1 c || writes 2 c
 
+-- an op that begins with a tick: op 0, and op 9, which gets 15 "if the very first would" (document 02, A.1)
+abbrev pub ticksFirst : Command → Bool
+ticksFirst c = isOp 0 c || isOp 9 c
+
 abbrev pub always : Command → Bool
 always c = true
 
@@ -64,7 +68,7 @@ laterRows =
     ∷ row 12 (isOp 3) (λ e c. ltb (c .e) (c .f))
     ∷ row 13 (isOp 3) (λ e c. not (isRunning (generator e (c .a))))
     ∷ row 14 (isOp 3) (λ e c. leb (shown (e .clock)) ((c .b * 1000000000 + c .c) * 256))
-    ∷ row 15 (isOp 0) (λ e c. endsInTime e)
+    ∷ row 15 ticksFirst (λ e c. endsInTime e)
     ∷ []
 
 abbrev pub table : List Row

@@ -10,6 +10,10 @@ use Rattle.model.specs.declared.Steering.{Steering}
 abbrev pub shown : Clock → ℕ
 shown k = (k .seconds * 1000000000 + k .nanoseconds) * 256 + k .fraction
 
+-- the exact time, remainder included, as a number of 2^-32 ns
+abbrev pub exact : Clock → ℕ
+exact k = shown k * 2 ^ 24 + k .remainder
+
 -- the end of the last second, 2^48 s, in 1/256 ns
 abbrev pub endOfTime : ℕ
 endOfTime = 2 ^ 48 * 1000000000 * 256
@@ -22,6 +26,10 @@ clockAt t remainder = record {
   fraction = t % 256;
   remainder = remainder;
 }
+
+-- the clock at an exact time
+unfoldable pub clockAtExact : ℕ → Clock
+clockAtExact x = clockAt (x / 2 ^ 24) (x % 2 ^ 24)
 
 -- the amount of a cycle, in 2^-32 ns: PER_ADJ while an adjustment has cycles left, else PERIOD
 unfoldable pub cycleAmount : Steering → ℕ

@@ -1,4 +1,5 @@
--- The table of ops: what an accepted command does, by the number of its op. Document 01, "Command sheet".
+-- The table of ops: what an accepted command does, by the number of its op. Document 01, "Command
+-- sheet"; op 9, document 02, A.1.
 use mathlib.Core.List.{List, [], _∷_}
 use lib.ListN.{getD}
 use Rattle.model.specs.declared.Engine.{Engine}
@@ -9,9 +10,10 @@ use Rattle.model.specs.Generator.{idleGenerator}
 use Rattle.model.specs.Record.{withWords, withGenerator}
 use Rattle.model.specs.Outcome.{refused, accepted}
 use Rattle.model.specs.Tick.{tickValues, tickEngine}
+use Rattle.model.specs.RunLine.{ran}
 use Rattle.model.specs.Orders.{loadedWords, commanded, armedBy, interruptsRead, maskSet, justFirst, statusOf}
 
--- tick, load words, command, arm, stop, read interrupts, set the enable mask, read status, show the words
+-- tick, load words, command, arm, stop, read interrupts, set the enable mask, read status, show the words; run
 abbrev pub ops : List (Engine → Command → Outcome)
 ops =
     (λ e c. accepted (tickValues e) (tickEngine e c))
@@ -23,6 +25,7 @@ ops =
     ∷ (λ e c. accepted noWords (maskSet e (c .a)))
     ∷ (λ e c. accepted (justFirst (statusOf e)) e)
     ∷ (λ e c. accepted (e .words) e)
+    ∷ (λ e c. ran e (c .a))
     ∷ []
 
 -- an op of no row gets number 5, and is never performed

@@ -2,11 +2,13 @@
 -- 3".
 use Prim.Native.Nat.{ℕ}
 use mathlib.Core.List.{List, [], _∷_}
+use lib.ListN.{replicate}
 use Rattle.model.specs.declared.Engine.{Engine}
 use Rattle.model.specs.declared.Command.{Command}
 use Rattle.model.specs.declared.Outcome.{Outcome}
 use Rattle.model.specs.declared.Words.{Words}
 use Rattle.model.specs.Record.{powerOn}
+use Rattle.model.specs.Tick.{noInputs}
 use Rattle.model.specs.Execute.{execute}
 
 -- what an onlooker is told of one command: its fields, its answer and its five values
@@ -34,3 +36,10 @@ engineAfter cs = engineFrom powerOn cs
 
 abbrev pub history : List Command → List Entry
 history cs = historyFrom powerOn cs
+
+-- ticks one after the other: the record after k ops 0 without inputs, and what one more gives
+abbrev pub afterTicks : Engine → ℕ → Engine
+afterTicks e k = engineFrom e (replicate k noInputs)
+
+abbrev pub tickAfter : Engine → ℕ → Outcome
+tickAfter e k = execute (afterTicks e k) noInputs

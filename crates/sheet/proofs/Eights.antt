@@ -1,6 +1,6 @@
 -- A number of eight bytes tells each of them: a number of two halves tells both where the lower one is below the upper
 -- one's unit, and bytes are below 256.
-use Prim.Native.Nat.{ℕ, _+_, _≤_, _<_}
+use Prim.Native.Nat.{ℕ, _+_, _/_, _%_, _≤_, _<_}
 use mathlib.Core.Path.{_≡_, refl, sym}
 use mathlib.Core.Bool.{Bool, true, false}
 use mathlib.Core.List.{List, [], _∷_, _++_}
@@ -17,15 +17,19 @@ use Rattle.model.proofs.Laws.Tests.{both}
 use Rattle.sheet.specs.Reading.{tickLine, pairAt, fourAt, eightAt}
 use Rattle.sheet.proofs.FirstLine.{starts-length}
 
--- "0,", "0,0," and "0,0,0,0," as numbers
-abbrev oneZero : ℕ
-oneZero = 0x2C30
-
-abbrev twoZeros : ℕ
-twoZeros = 0x2C30_2C30
-
+-- "0,0,0,0," as a number
 abbrev fourZeros : ℕ
 fourZeros = 0x2C30_2C30_2C30_2C30
+
+-- the two, four or eight bytes of a number, the lowest first
+abbrev pairBytes : ℕ → List ℕ
+pairBytes n = n % 256 ∷ n / 256 ∷ []
+
+abbrev fourBytes : ℕ → List ℕ
+fourBytes n = pairBytes (n % 65536) ++ pairBytes (n / 65536)
+
+abbrev pub eightBytes : ℕ → List ℕ
+eightBytes n = fourBytes (n % 4294967296) ++ fourBytes (n / 4294967296)
 
 -- the line of a tick stands at an index, as it is compared
 pub record TickAt (s : List ℕ) (at : ℕ) : Type 0 where
@@ -35,11 +39,11 @@ pub record TickAt (s : List ℕ) (at : ℕ) : Type 0 where
   pub end : getD s (at + 17) 0 ≡ 10
 
 -- the bytes of a text stand from an index on
-abbrev BytesAt : List ℕ → List ℕ → ℕ → Type 0
+abbrev pub BytesAt : List ℕ → List ℕ → ℕ → Type 0
 BytesAt [] s at = Unit {0}
 BytesAt (b ∷ h) s at = (getD s at 0 ≡ b) × BytesAt h s (at + 1)
 
-starts-at : (h s : List ℕ) (at : ℕ) → at + length h ≤ length s → BytesAt h s at → startsWith h (drop at s) ≡ true
+pub starts-at : (h s : List ℕ) (at : ℕ) → at + length h ≤ length s → BytesAt h s at → startsWith h (drop at s) ≡ true
 starts-at [] s at l e = refl
 starts-at (b ∷ h) s at l e =
     let m : at < length s = omega arith in
@@ -54,13 +58,13 @@ bytes-of (b ∷ h) s at l e =
 
 -- the bytes of two texts, one behind the other
 module _ (h s : List ℕ) where
-  bytes-join : (g : List ℕ) (at : ℕ) → BytesAt g s at → BytesAt h s (at + length g) → BytesAt (g ++ h) s at
+  pub bytes-join : (g : List ℕ) (at : ℕ) → BytesAt g s at → BytesAt h s (at + length g) → BytesAt (g ++ h) s at
   bytes-join [] at d e = rw add-zero at e
   bytes-join (b ∷ g) at d e =
       let next : at + length (b ∷ g) ≡ at + 1 + length g = omega arith in
       (d .0, bytes-join g (at + 1) (d .1) (rw next at e))
 
-  bytes-split : (g : List ℕ) (at : ℕ) → BytesAt (g ++ h) s at → BytesAt g s at × BytesAt h s (at + length g)
+  pub bytes-split : (g : List ℕ) (at : ℕ) → BytesAt (g ++ h) s at → BytesAt g s at × BytesAt h s (at + length g)
   bytes-split [] at e = (tt, rw add-zero e)
   bytes-split (b ∷ g) at e =
       let next : at + length (b ∷ g) ≡ at + 1 + length g = omega arith in
@@ -69,18 +73,18 @@ module _ (h s : List ℕ) where
 
 -- the bytes from an index on as a number, and back
 module _ (s : List ℕ) where
-  pair-is : (at : ℕ) → BytesAt (bytes "0,") s at → pairAt s at ≡ oneZero
-  pair-is at e = rw (e .0, e .1 .0)
+  pair-is : (at n : ℕ) → BytesAt (pairBytes n) s at → pairAt s at ≡ n
+  pair-is at n e = omega (arith, e .0, e .1 .0)
 
-  four-is : (at : ℕ) → BytesAt (bytes "0,0,") s at → fourAt s at ≡ twoZeros
-  four-is at e =
-      let halves = bytes-split (bytes "0,") s (bytes "0,") at e in
-      cc (pair-is at (halves .0), pair-is (at + 2) (halves .1))
+  four-is : (at n : ℕ) → BytesAt (fourBytes n) s at → fourAt s at ≡ n
+  four-is at n e =
+      let halves = bytes-split (pairBytes (n / 65536)) s (pairBytes (n % 65536)) at e in
+      omega (arith, pair-is at _ (halves .0), pair-is (at + 2) _ (halves .1))
 
-  eight-is : (at : ℕ) → BytesAt (bytes "0,0,0,0,") s at → eightAt s at ≡ fourZeros
-  eight-is at e =
-      let halves = bytes-split (bytes "0,0,") s (bytes "0,0,") at e in
-      cc (four-is at (halves .0), four-is (at + 4) (halves .1))
+  eight-is : (at n : ℕ) → BytesAt (eightBytes n) s at → eightAt s at ≡ n
+  eight-is at n e =
+      let halves = bytes-split (fourBytes (n / 4294967296)) s (fourBytes (n % 4294967296)) at e in
+      omega (arith, four-is at _ (halves .0), four-is (at + 4) _ (halves .1))
 
   tick-at : (at : ℕ) → startsWith tickLine (drop at s) ≡ true → TickAt s at
   tick-at at e =
@@ -90,8 +94,8 @@ module _ (s : List ℕ) where
       let halves = bytes-split four s four at (line .0) in
       let next : at + 16 + 1 ≡ at + 17 = omega arith in
       record {
-        first = eight-is at (halves .0);
-        second = eight-is (at + 8) (halves .1);
+        first = eight-is at fourZeros (halves .0);
+        second = eight-is (at + 8) fourZeros (halves .1);
         last = line .1 .0;
         end = rw next at (line .1 .1 .0);
       }
@@ -111,25 +115,27 @@ module _ (s : List ℕ) (fits : (i : ℕ) → getD s i 0 < 256) where
   four-below : (at : ℕ) → fourAt s at < 4294967296
   four-below at = omega (arith, pair-below at, pair-below (at + 2))
 
-  pair-bytes : (at : ℕ) → pairAt s at ≡ oneZero → BytesAt (bytes "0,") s at
-  pair-bytes at e =
+  pair-bytes : (at n : ℕ) → pairAt s at ≡ n → BytesAt (pairBytes n) s at
+  pair-bytes at n e =
       let low = fits at in
       (omega arith, (omega arith, tt))
 
-  four-bytes : (at : ℕ) → fourAt s at ≡ twoZeros → BytesAt (bytes "0,0,") s at
-  four-bytes at e =
+  four-bytes : (at n : ℕ) → fourAt s at ≡ n → BytesAt (fourBytes n) s at
+  four-bytes at n e =
       let low = pair-below at in
-      bytes-join (bytes "0,") s (bytes "0,") at (pair-bytes at (omega arith)) (pair-bytes (at + 2) (omega arith))
+      bytes-join (pairBytes (n / 65536)) s (pairBytes (n % 65536)) at (pair-bytes at _ (omega arith))
+      (pair-bytes (at + 2) _ (omega arith))
 
-  eight-bytes : (at : ℕ) → eightAt s at ≡ fourZeros → BytesAt (bytes "0,0,0,0,") s at
-  eight-bytes at e =
+  pub eight-bytes : (at n : ℕ) → eightAt s at ≡ n → BytesAt (eightBytes n) s at
+  eight-bytes at n e =
       let low = four-below at in
-      bytes-join (bytes "0,0,") s (bytes "0,0,") at (four-bytes at (omega arith)) (four-bytes (at + 4) (omega arith))
+      bytes-join (fourBytes (n / 4294967296)) s (fourBytes (n % 4294967296)) at (four-bytes at _ (omega arith))
+      (four-bytes (at + 4) _ (omega arith))
 
   tick-starts : (at : ℕ) → at + 18 ≤ length s → TickAt s at → startsWith tickLine (drop at s) ≡ true
   tick-starts at l e =
       let four = bytes "0,0,0,0," in
-      let halves = bytes-join four s four at (eight-bytes at (e .first)) (eight-bytes (at + 8) (e .second)) in
+      let halves = bytes-join four s four at (eight-bytes at _ (e .first)) (eight-bytes (at + 8) _ (e .second)) in
       let next : at + 16 + 1 ≡ at + 17 = omega arith in
       starts-at tickLine s at l (bytes-join (bytes "0\n") s (four ++ four) at halves (e .last, (rw next (e .end), tt)))
 

@@ -2,6 +2,9 @@
 pub mod Lines
 pub mod FirstLine
 pub mod LineParts
+pub mod Rows
 pub mod Eights
 pub mod Ticks
+pub mod Digits
+pub mod Runs
 pub mod Body

@@ -2,12 +2,14 @@
 // Each function returns a definition of the model's specs/Text.antt and specs/Sheet.antt. Document 01, "Command
 // sheet".
 ghost use mathlib.Core.Path.{_≡_};
+ghost use mathlib.Core.Bool.{true};
 ghost use Prim.Native.Nat.{_+_, _^_, _≤_, _<_};
 ghost use lib.ListN.{length, drop};
 ghost use Rattle.model.specs.Text.{lineEnd, parts};
 ghost use Rattle.model.specs.Sheet.{startsWith, commandOf, noLine, lineOf, refusedAt, bodyVerdict};
 ghost use Rattle.model.specs.Sheet.{sheetVerdict};
-ghost use Rattle.sheet.specs.Reading.{tickLine, pairAt, fourAt, eightAt, linePart, ReadAt};
+ghost use Rattle.sheet.specs.Reading.{tickLine, pairAt, fourAt, eightAt, beginsRun, runLineTo, RunAt};
+ghost use Rattle.sheet.specs.Reading.{linePart, ReadAt};
 use bits::join;
 use model::Command;
 use model::Line;
@@ -22,6 +24,12 @@ const FIRST_LINE: [u8; 19] = *b"op,a,b,c,d,e,f,g,h\n";
 
 // "0,0,0,0," as a number, the first byte lowest.
 const FOUR_ZEROS: u64 = 0x2C30_2C30_2C30_2C30;
+
+// What stands behind a run's value, ",0,0,0,0,0,0,0" and the line end, as two numbers: its first eight bytes and its
+// last eight, which share one.
+const ZEROS_BEHIND: u64 = 0x302C_302C_302C_302C;
+
+const ZEROS_TO_END: u64 = 0x0A30_2C30_2C30_2C30;
 
 // The value line that begins at an index: the caller's bytes up to the next line end, which is looked for behind 17
 // bytes, since no value line has fewer. A shorter line is handed on with a line end in it, and is none either way.
@@ -160,11 +168,79 @@ pub struct Next {
     pub end: usize,
 }
 
-// The value line at an index. A last line with no line end is none.
+// "9," stands at this index, with 18 bytes or more from there on, as every value line has.
+fn is_run_at(s: &[u8], at: usize) -> bool
+    requires { ⌜ at ≤ length (now s) ⌝ }
+    ensures { λ r. ⌜ r ≡ beginsRun (drop at (now (s .entry))) ⌝ }
+{
+    if s.len() - at < 18 {
+        return false;
+    }
+    if s[at] != 57 {
+        return false;
+    }
+    s[at + 1] == 44
+}
+
+fn run_line_to(ok: bool, a: u64, end: usize) -> Next
+    ensures { λ r. ⌜ r ≡ runLineTo ok a end ⌝ }
+{
+    Next {
+        line: Line {
+            ok: ok,
+            command: command_of([9, a, 0, 0, 0, 0, 0, 0, 0]),
+        },
+        end: end,
+    }
+}
+
+// The run line whose value begins at this index, behind "9,": one to seven digits, the first not 0, then seven zeros.
+// Not ok where another line stands there.
+fn run_at(s: &[u8], from: usize) -> Next
+    requires { ⌜ from + 16 ≤ length (now s) ⌝ }
+    ensures { λ r. ⌜ (r .line .ok ≡ true → RunAt (now (s .entry)) from r) ⌝ }
+{
+    let mut v: u64 = 0;
+    let mut i = from;
+    while i < from + 7 {
+        let b = s[i];
+        if b < 48 {
+            break;
+        }
+        if 57 < b {
+            break;
+        }
+        v = v * 10 + wide(b - 48);
+        i += 1;
+    }
+    if s.len() - i < 15 {
+        return run_line_to(false, 0, i);
+    }
+    // no digit at all, or a 0 in front
+    if s[from] < 49 {
+        return run_line_to(false, 0, i);
+    }
+    if eight_at(s, i) != ZEROS_BEHIND {
+        return run_line_to(false, 0, i);
+    }
+    if eight_at(s, i + 7) != ZEROS_TO_END {
+        return run_line_to(false, 0, i);
+    }
+    run_line_to(true, v, i + 14)
+}
+
+// The value line at an index. A last line with no line end is none. A run of up to seven digits, as most are, is read
+// at once.
 pub fn read_at(s: &[u8], at: usize) -> Next
     requires { ⌜ at ≤ length (now s) ⌝ }
     ensures { λ r. ⌜ ReadAt (now (s .entry)) at r ⌝ }
 {
+    if is_run_at(s, at) {
+        let run = run_at(s, at + 2);
+        if run.line.ok {
+            return run;
+        }
+    }
     let line = line_at(s, at);
     let end = at + line.len();
     if s.len() <= end {

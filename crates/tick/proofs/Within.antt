@@ -3,7 +3,7 @@
 use Prim.Native.Nat.{ℕ, _<_, _≤_, _^_}
 use mathlib.Core.Path.{_≡_, refl}
 use mathlib.Core.Bool.{true}
-use borrow.Author.Tests.{eq-eqb, ltb-true}
+use borrow.Author.Tests.{ltb-true}
 use Rattle.model.specs.declared.Engine.{Engine}
 use Rattle.model.specs.declared.Command.{Command}
 use Rattle.model.specs.declared.Generator.{Generator}
@@ -14,8 +14,8 @@ use Rattle.model.specs.Bounds.{ClockIn}
 use Rattle.model.proofs.Laws.Ranges.{Valid, valid-parts, clock-in}
 use Rattle.model.proofs.Laws.Clock.{cycle-amount-in, shown-ticked, ticked-ok}
 use Rattle.model.proofs.Laws.Fields.{TickFields, tick-fields}
-use Rattle.model.proofs.Laws.Checks.{Accepted, accepted-facts}
-use Rattle.model.proofs.Laws.Valid.{tick-step-bounds}
+use Rattle.model.proofs.Laws.Checks.{Accepted, tick-first, accepted-facts}
+use Rattle.model.proofs.Laws.Tick.{tick-step-bounds}
 use Rattle.clock.specs.Cycle.{Cycle}
 use Rattle.fifo.specs.Capture.{Capturing}
 use Rattle.generator.specs.Advance.{Ticking}
@@ -44,7 +44,7 @@ module _ (e : Engine) (c : Command) (t : Ticks e c) where
   ticking g ok = record {
     generator = ok;
     clock = parts .clock;
-    later = ticked-ok (e .clock) _ (ltb-true _ _ (facts .check15 (eq-eqb _ _ (t .op))));
+    later = ticked-ok (e .clock) _ (ltb-true _ _ (facts .check15 (tick-first c (t .op))));
     apart = shown-ticked (e .clock) (cycleAmount (e .steering));
     low = tick-step-bounds e parts .1;
   }

@@ -4,7 +4,8 @@
 //!     compare [COMMANDS [SEED]]
 use reference::ledger::Ledger;
 use reference::random::Random;
-use reference::{sheet, tuned};
+use reference::tally::Runs;
+use reference::{sheet, tuned_sheet};
 use std::sync::atomic::{AtomicU64, Ordering};
 
 /// The seed from which the present sheet is made.
@@ -30,7 +31,7 @@ fn main() {
     let seed = args.get(1).copied().unwrap_or(1);
     // SAFETY: they take nothing.
     let (version, room) = unsafe { (lendaru_sheet_version(), lendaru_results_room()) };
-    assert_eq!(version, 1);
+    assert_eq!(version, 2);
     std::panic::set_hook(Box::new(|why| {
         eprintln!("{why}\nTo see it again: compare 1 {}", SEED.load(Ordering::Relaxed));
     }));
@@ -38,6 +39,7 @@ fn main() {
     let mut out = vec![0; room + 16];
     let (mut told, mut text) = (Vec::new(), Vec::new());
     let mut answers = [0u64; 16];
+    let mut runs = Runs::default();
     let (mut commands, mut sheets) = (0u64, 0u64);
     while commands < most {
         SEED.store(random.0, Ordering::Relaxed);
@@ -47,6 +49,7 @@ fn main() {
             ledger.told(c, o);
             ledger.holds(e.shown(), e.remainder());
             answers[o.answer as usize] += 1;
+            runs.told(c, o);
             commands += 1;
         });
         if let Err((_, n)) = sheet::commands(&s) {
@@ -56,7 +59,7 @@ fn main() {
         let n = run(&s, &mut out, fill);
         let same = &out[..n] == expected.as_bytes() && out[n..].iter().all(|&b| b == fill);
         assert!(same, "the library differs");
-        tuned::results(&s, &mut told, &mut text);
+        tuned_sheet::results(&s, &mut told, &mut text);
         assert!(text == expected.as_bytes(), "the tuned engine differs");
         let short = random.below(room as u64) as usize;
         assert_eq!(run(&s, &mut out[..short], fill), 0, "a short buffer is refused");
@@ -65,4 +68,5 @@ fn main() {
     }
     println!("{commands} commands in {sheets} sheets, seed {seed}: every byte equal, the ledger agrees");
     println!("answers 0 to 15: {answers:?}");
+    println!("{runs}");
 }

@@ -5,7 +5,8 @@
 //!     lent [COMMANDS [SEED]]
 use reference::engine::{Command, Engine, Outcome};
 use reference::random::Random;
-use reference::record::{Clock, Record, NUMBERS};
+use reference::record::{Record, NUMBERS};
+use reference::tally::Runs;
 use std::sync::atomic::{AtomicU64, Ordering};
 
 /// The seed from which the present engine's life is made.
@@ -17,29 +18,22 @@ extern "C" {
     fn lendaru_execute(e: &mut Record, c: Command) -> Outcome;
 }
 
+#[link(name = "lendaru_run", kind = "static")]
+extern "C" {
+    fn lendaru_run(e: &mut Record, a: u64) -> Outcome;
+}
+
 #[derive(Default)]
 struct Counts {
     commands: u64,
     malformed: u64,
     valid: u64,
     answers: [u64; 16],
+    runs: Runs,
+    /// calls of `lendaru_run`
+    called: u64,
     /// malformed records by the condition of number 4 that they meet, where they meet only one
     faults: [u64; 12],
-}
-
-/// A command; a generator is often armed for an instant about the time shown, and some to meet the second's end.
-fn command(random: &mut Random, shown: &Clock) -> Command {
-    let [op, mut f @ ..] = random.command();
-    if op == 3 && random.chance(70) {
-        let ahead = random.one_of(&[3, 700]);
-        f[1] = shown.seconds;
-        f[2] = (shown.nanoseconds + random.below(ahead)).saturating_sub(1);
-        if random.chance(25) {
-            f[3] = 1_000_000_000u64.saturating_sub(f[2]);
-            f[4] = 0;
-        }
-    }
-    Command { op, f }
 }
 
 /// Damages some numbers, anywhere in the record; every second one outside the FIFOs, which are most of it.
@@ -75,18 +69,25 @@ fn pend(random: &mut Random, record: &mut Record) {
     g.pending.remainder = (exact + random.below(3)).saturating_sub(1);
 }
 
-fn execute(record: &mut Record, c: &Command) -> Outcome {
+/// A command by the library: a run by the function that does nothing else, where it is asked for.
+fn execute(record: &mut Record, c: &Command, by_run: bool) -> Outcome {
     // SAFETY: the record is lent for the call alone.
-    unsafe { lendaru_execute(record, *c) }
+    unsafe {
+        if by_run {
+            lendaru_run(record, c.f[0])
+        } else {
+            lendaru_execute(record, *c)
+        }
+    }
 }
 
 /// One command on a record that may have been damaged; whether it was malformed.
-fn refused(record: &Record, c: &Command, counts: &mut Counts) -> bool {
+fn refused(record: &Record, c: &Command, by_run: bool, counts: &mut Counts) -> bool {
     if record.is_valid() {
         return false;
     }
     let mut lent = *record;
-    assert_eq!(execute(&mut lent, c), Outcome { answer: 4, values: [0; 5] }, "number 4 of {record:?}, {c:?}");
+    assert_eq!(execute(&mut lent, c, by_run), Outcome { answer: 4, values: [0; 5] }, "number 4 of {record:?}, {c:?}");
     assert_eq!(lent, *record, "a malformed record is left as it was, {c:?}");
     let faults = record.faults();
     if faults.iter().filter(|&&fault| fault).count() == 1 {
@@ -105,15 +106,16 @@ fn live(random: &mut Random, counts: &mut Counts) {
     assert_eq!(lent, engine.record(), "the power-on record");
     let end = counts.commands + 1000 + random.below(5000);
     while counts.commands < end {
-        let c = command(random, &lent.clock);
-        let times = if c.op == 0 { random.one_of(&[1, 1, 1, 20]) } else { 1 };
-        for _ in 0..times {
+        let c = random.command_at(lent.clock.seconds, lent.clock.nanoseconds);
+        for _ in 0..random.times(&c, 20) {
+            let by_run = c.op == 9 && c.f[1..] == [0; 7] && random.chance(50);
+            counts.called += u64::from(by_run);
             counts.commands += 1;
             let mut damaged = lent;
             if random.chance(10) {
                 damage(random, &mut damaged);
             }
-            if refused(&damaged, &c, counts) {
+            if refused(&damaged, &c, by_run, counts) {
                 continue;
             }
             if damaged != lent {
@@ -122,9 +124,10 @@ fn live(random: &mut Random, counts: &mut Counts) {
                 engine = Engine::from_record(&lent);
             }
             let expected = engine.execute(&c);
-            assert_eq!(execute(&mut lent, &c), expected, "the reply to {c:?} on {damaged:?}");
+            assert_eq!(execute(&mut lent, &c, by_run), expected, "the reply to {c:?} on {damaged:?}");
             assert_eq!(lent, engine.record(), "the record after {c:?} on {damaged:?}");
             counts.answers[expected.answer as usize] += 1;
+            counts.runs.told(&c, &expected);
         }
     }
 }
@@ -144,9 +147,10 @@ fn main() {
         live(&mut random, &mut counts);
         lives += 1;
     }
-    let Counts { commands, malformed, valid, answers, faults } = counts;
+    let Counts { commands, malformed, valid, answers, runs, called, faults } = counts;
     println!("{commands} commands on {lives} lent records, seed {seed}: every reply and every record equal");
     println!("damaged before a command: {malformed} malformed, {valid} still valid");
     println!("answers 0 to 15: {answers:?}");
+    println!("{runs}; by lendaru_run {called}, malformed records included");
     println!("malformed by one condition of number 4 alone, in its order: {faults:?}");
 }

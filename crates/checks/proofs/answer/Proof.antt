@@ -1,45 +1,72 @@
--- Each test is the table's, and the lines together give the first that fails.
+-- Each test is the table's, and the lines together give the first that fails; of an op that is neither 2 nor 3 the
+-- numbers between 6 and 15 ask nothing.
+use mathlib.Core.Path.{sym, _∙_}
 use borrow.Author.Needs.{needs}
 use Rattle.model.specs.Checks.{checks}
-use Rattle.checks.proofs.Table.{answer-found}
+use Rattle.checks.proofs.Table.{answer-found, neither-op, answer-of-others}
 use Rattle.checks.proofs.answer.Statement.{statement}
 use Rattle.checks.proofs.answer.Tie as tie
 
 returns : tie.Need-returns
 unfolding checks
 returns c =
-    let at10 = c .before .before .before .before .before in
-    let late = at10 .before .before .before .before .before .before in
-    let early = late .before .before .before .before .before .before in
+    let test = c .before in
+    let at6 = test .before .before .before .before in
+    let start = at6 .before .before .before .before .before in
+    let other = neither-op (start .args .c .op) (sym (test .before .either .ensures) ∙ test .if1 .taken) in
     simp (
-      c .first11 .ensures,
-      c .before .first10 .ensures,
-      c .before .before .first9 .ensures,
-      c .before .before .before .first8 .ensures,
-      c .before .before .before .before .first7 .ensures,
-      at10 .first6 .ensures,
-      at10 .before .first5 .ensures,
-      at10 .before .before .first4 .ensures,
-      at10 .before .before .before .first3 .ensures,
-      at10 .before .before .before .before .first2 .ensures,
-      at10 .before .before .before .before .before .first .ensures,
-      late .time-left .ensures,
-      late .before .start-ahead .ensures,
-      late .before .before .generator-free .ensures,
-      late .before .before .before .implies .ensures,
+      c .first3 .ensures,
+      at6 .first2 .ensures,
+      at6 .before .first .ensures,
+      at6 .before .before .time-left .ensures,
+      at6 .before .before .before .fields-ok .ensures,
+    )
+    (answer-of-others (start .args .e) (start .args .c) (start .pre) (other .0) (other .1))
+
+start-ahead-requires : tie.Need-start-ahead-requires
+start-ahead-requires c κs =
+    let count = c .before .before .before .before .before in
+    let test = count .before .before .before .before in
+    let at6 = test .before .before .before .before in
+    at6 .before .before .before .before .before .pre
+
+returns-2 : tie.Need-returns-2
+unfolding checks
+returns-2 c =
+    let at10 = c .before .before .before .before .before in
+    let late = at10 .before .before .before .before in
+    let early = late .before .before .before .before .before in
+    let at6 = early .before .before .before .before .before .before .before .before .before in
+    let start = at6 .before .before .before .before .before in
+    simp (
+      c .first12 .ensures,
+      c .before .first11 .ensures,
+      c .before .before .first10 .ensures,
+      c .before .before .before .first9 .ensures,
+      c .before .before .before .before .first8 .ensures,
+      at10 .first7 .ensures,
+      at10 .before .first6 .ensures,
+      at10 .before .before .first5 .ensures,
+      at10 .before .before .before .first4 .ensures,
+      late .start-ahead .ensures,
+      late .before .generator-free .ensures,
+      late .before .before .implies .ensures,
       early .adjustment-free .ensures,
       early .before .count-ok .ensures,
       early .before .before .amount-ok .ensures,
       early .before .before .before .time-ok .ensures,
       early .before .before .before .before .timestamp-waits .ensures,
-      early .before .before .before .before .before .fields-ok .ensures,
+      at6 .first2 .ensures,
+      at6 .before .first .ensures,
+      at6 .before .before .time-left .ensures,
+      at6 .before .before .before .fields-ok .ensures,
     )
-    (answer-found _ _ (early .before .before .before .before .before .before .before .pre))
+    (answer-found _ _ (start .pre))
 
 pub answer-spec : {M : Type 1} → statement M
 answer-spec =
     tie.close
-    (tie.spec (search needs) (search needs) (λ c κs. search needs) (search needs) (λ c κs. search needs)
-    (search needs) (search needs) (search needs) (λ c κs. search needs) (λ c κs. search needs) (search needs)
-    (search needs) (search needs) (search needs) (search needs) (search needs) (search needs) (search needs)
-    (search needs) (search needs) (search needs) returns)
+    (tie.spec (search needs) (λ c κs. search needs) (search needs) (search needs) (search needs) (search needs) returns
+    (search needs) (λ c κs. search needs) (search needs) (λ c κs. search needs) (search needs) (search needs)
+    (search needs) start-ahead-requires (search needs) (search needs) (search needs) (search needs) (search needs)
+    (search needs) (search needs) (search needs) (search needs) returns-2)

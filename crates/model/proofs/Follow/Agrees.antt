@@ -12,12 +12,11 @@ use Rattle.model.specs.declared.Outcome.{Outcome}
 use Rattle.model.specs.declared.Generator.{Generator}
 use Rattle.model.specs.declared.Steering.{Steering}
 use Rattle.model.specs.declared.Words.{Words}
-use Rattle.model.specs.Clock.{shown}
+use Rattle.model.specs.Clock.{shown, exact}
 use Rattle.model.specs.Generator.{isRunning}
 use Rattle.model.specs.Run.{entryOf}
 use Rattle.model.specs.Ledger.{LedgerSteering, Edge, Order, none, standing, Ledger}
 use Rattle.model.specs.Bookings.{told}
-use Rattle.model.proofs.Laws.Clock.{exact}
 use Rattle.model.proofs.Laws.Fractions.{Is}
 use Rattle.model.proofs.Follow.Train.{Standing}
 

@@ -16,6 +16,7 @@ use Rattle.model.specs.Bookings.{booked, told}
 use Rattle.model.proofs.Laws.Checks.{by-answer, by-op}
 use Rattle.model.proofs.Follow.Agrees.{Agrees, after}
 use Rattle.model.proofs.Follow.OnTick.{op-0-agrees}
+use Rattle.model.proofs.Follow.OnRun.{op-9-agrees}
 use Rattle.model.proofs.Follow.OnWords.{load-agrees, command-agrees}
 use Rattle.model.proofs.Follow.OnOrder.{arm-agrees, stop-agrees}
 
@@ -41,6 +42,7 @@ execute-agrees e l c v h =
       mask = λ o. rw o h;
       status = λ o. rw o h;
       show = λ o. rw o h;
+      run = op-9-agrees e l c v h;
     }))
   where
     Good : Outcome → Type 0

@@ -1,7 +1,7 @@
 -- An accepted tick: the clock moves by the amount that the ledger adds, the adjustment loses the cycle that the
 -- ledger takes off, and each generator returns the edge that its order has there, if any.
 use Prim.Native.Nat.{ℕ, _+_, _-_, _^_}
-use mathlib.Core.Path.{_≡_, refl, sym, ap, _∙_}
+use mathlib.Core.Path.{_≡_, refl, sym, _∙_}
 use mathlib.Core.List.{List, _++_, append-nil}
 use mathlib.Core.Bool.{Bool, true, false, cond, true≢false}
 use native.Mathlib.Omega.{arith}
@@ -12,7 +12,6 @@ use Rattle.model.specs.declared.Command.{Command}
 use Rattle.model.specs.declared.Generator.{Generator}
 use Rattle.model.specs.declared.Adjustment.{Adjustment}
 use Rattle.model.specs.declared.Steering.{Steering}
-use Rattle.model.specs.declared.Words.{Words}
 use Rattle.model.specs.declared.Outcome.{Outcome}
 use Rattle.model.specs.Clock.{shown, cycleAmount, remainderBy, isOver, spent, steeringAfter}
 use Rattle.model.specs.Generator.{isRunning, placed, generated, isDue}
@@ -24,10 +23,10 @@ use Rattle.model.specs.Ledger.{LedgerSteering, Edge, Order, none, standi
 use Rattle.model.specs.Ledger.{ledgerTicked, ledgerTicks, ledgerEdges}
 use Rattle.model.specs.Bookings.{codeFor, edgesIn, booked, told}
 use Rattle.model.proofs.Laws.Tests.{split}
-use Rattle.model.proofs.Laws.Ranges.{valid-parts, clock-in}
+use Rattle.model.proofs.Laws.Ranges.{Valid, valid-parts, clock-in}
 use Rattle.model.proofs.Laws.Clock.{exact-ticked, shown-ticked, step-left, remainder-low}
 use Rattle.model.proofs.Laws.Fractions.{Is, is-plus}
-use Rattle.model.proofs.Laws.Valid.{tick-step-bounds}
+use Rattle.model.proofs.Laws.Tick.{tick-step-bounds}
 use Rattle.model.proofs.Follow.Tick.{TickIn, tick-standing}
 use Rattle.model.proofs.Follow.Agrees.{Follows, Steers, Agrees, after}
 
@@ -41,11 +40,10 @@ ordered-is s o h = rw (h .owes) (by (eqb (s .adjustment .cycles) 0) refl)
     by true z = h .periodIs
     by false z = h .adjustIs z
 
-tick-in : (e : Engine) (l : Ledger) → valid e ≡ true → Agrees e l
+tick-in : (e : Engine) (l : Ledger) → Valid e → Agrees e l
     → TickIn (shown (e .clock)) (tickStep e) (e .clock .remainder)
     (remainderBy (e .clock) (cycleAmount (e .steering))) (cycleAmount (e .steering)) l
-tick-in e l v h =
-    let p = valid-parts e v in
+tick-in e l p h =
     let b = tick-step-bounds e p in
     record {
       some = omega arith;
@@ -98,13 +96,13 @@ steers-tick s o h = record {
 }
 
 -- one tick, whose codes an entry has
-pub tick-agrees : (e : Engine) (l : Ledger) (c : Command) (x : Entry) → valid e ≡ true → Agrees e l
-    → x .values ≡ tickValues e
+pub tick-agrees : (e : Engine) (l : Ledger) (c : Command) (x : Entry) → Valid e → Agrees e l
+    → x .values .w1 ≡ tickValues e .w1
+    → x .values .w2 ≡ tickValues e .w2
     → Agrees (tickEngine e c) (ledgerEdges (ledgerTicked l) (edgesIn 1 l x) (edgesIn 2 l x))
 unfolding tickEngine tickValues
-tick-agrees e l c x v h told =
-    let p = valid-parts e v in
-    let k = tick-in e l v h in
+tick-agrees e l c x p h one two =
+    let k = tick-in e l p h in
     let now = shown-ticked (e .clock) (cycleAmount (e .steering)) in
     let moved = exact-ticked (e .clock) (cycleAmount (e .steering)) in
     record {
@@ -113,10 +111,10 @@ tick-agrees e l c x v h told =
       steering = steers-tick (e .steering) (l .steering) (h .steering);
       generator1 =
           rw now
-          (follows-tick (l .train1 .order) _ _ k 1 x (ap (λ (w : Words). w .w1) told) (p .generator1) (h .generator1));
+          (follows-tick (l .train1 .order) _ _ k 1 x one (p .generator1) (h .generator1));
       generator2 =
           rw now
-          (follows-tick (l .train2 .order) _ _ k 2 x (ap (λ (w : Words). w .w2) told) (p .generator2) (h .generator2));
+          (follows-tick (l .train2 .order) _ _ k 2 x two (p .generator2) (h .generator2));
     }
 
 -- op 0
@@ -129,4 +127,4 @@ pub op-0-agrees : (e : Engine) (l : Ledger) (c : Command) → valid e ≡ true �
     → Agrees (tickEngine e c) (after l c (accepted (tickValues e) (tickEngine e c)))
 op-0-agrees e l c v h op =
     let o = accepted (tickValues e) (tickEngine e c) in
-    rw (op-0-told l c o op refl) (tick-agrees e l c (entryOf c o) v h refl)
+    rw (op-0-told l c o op refl) (tick-agrees e l c (entryOf c o) (valid-parts e v) h refl refl)

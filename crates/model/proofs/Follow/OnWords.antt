@@ -9,7 +9,7 @@ use Rattle.model.specs.declared.Engine.{Engine}
 use Rattle.model.specs.declared.Command.{Command}
 use Rattle.model.specs.declared.Words.{Words}
 use Rattle.model.specs.Words.{noWords, secondsIn, nanosecondsIn, amountIn, countIn}
-use Rattle.model.specs.Clock.{clockSet}
+use Rattle.model.specs.Clock.{exact, clockSet}
 use Rattle.model.specs.Fifo.{popped}
 use Rattle.model.specs.Record.{withWords, fifo, withFifo}
 use Rattle.model.specs.Outcome.{accepted}
@@ -21,7 +21,6 @@ use Rattle.model.specs.Ledger.{Ledger}
 use Rattle.model.specs.Bookings.{booked, told}
 use Rattle.model.proofs.Laws.Tests.{split}
 use Rattle.model.proofs.Laws.Checks.{by-write}
-use Rattle.model.proofs.Laws.Clock.{exact}
 use Rattle.model.proofs.Laws.Fractions.{Is, is-over, is-finer}
 use Rattle.model.proofs.Follow.Agrees.{Agrees, after}
 

@@ -17,6 +17,7 @@ use Rattle.model.specs.Generator.{isRunning, idleGenerator}
 use Rattle.model.specs.Record
 use Rattle.model.specs.Outcome.{refused, accepted}
 use Rattle.model.specs.Tick
+use Rattle.model.specs.RunLine
 use Rattle.model.specs.Orders
 use Rattle.model.specs.Ops
 use Rattle.model.specs.Ranges.{valid}
@@ -46,7 +47,14 @@ pub record Accepted (e : Engine) (c : Command) : Type 0 where
   pub check12 : Checks.isOp 3 c ≡ true → c .e < c .f
   pub check13 : Checks.isOp 3 c ≡ true → not (isRunning (Record.generator e (c .a))) ≡ true
   pub check14 : Checks.isOp 3 c ≡ true → shown (e .clock) ≤ (c .b * 1000000000 + c .c) * 256
-  pub check15 : Checks.isOp 0 c ≡ true → Tick.endsInTime e ≡ true
+  pub check15 : Checks.ticksFirst c ≡ true → Tick.endsInTime e ≡ true
+
+-- ops 0 and 9 begin with a tick
+pub tick-first : (c : Command) → c .op ≡ 0 → Checks.ticksFirst c ≡ true
+tick-first c o = rw o refl
+
+pub run-first : (c : Command) → c .op ≡ 9 → Checks.ticksFirst c ≡ true
+run-first c o = rw o refl
 
 -- a PERIOD write is no adjust write, so that check 9 asks for its byte too
 only-period : (c : Command) → Checks.writes 1 c ≡ true → Checks.writes 2 c ≡ false
@@ -111,13 +119,14 @@ pub record ByOp (P : Outcome → Type 0) (e : Engine) (c : Command) : Type 0 whe
   pub mask : c .op ≡ 6 → P (accepted Words.noWords (Orders.maskSet e (c .a)))
   pub status : c .op ≡ 7 → P (accepted (Orders.justFirst (Orders.statusOf e)) e)
   pub show : c .op ≡ 8 → P (accepted (e .words) e)
+  pub run : c .op ≡ 9 → P (RunLine.ran e (c .a))
 
 pub by-op : (P : Outcome → Type 0) (e : Engine) (c : Command) → c .op < length Ops.ops → ByOp P e c
     → P (Ops.performed e c)
 unfolding Ops.performed
 by-op P e c few by =
     by-row (λ n op. c .op ≡ n → P (op e c)) Ops.ops (c .op) Ops.unknown
-    (search) (λ n past o. absurd (omega arith)) refl
+    (search depth 12) (λ n past o. absurd (omega arith)) refl
 
 -- what a write leaves, by its selector
 pub record ByWrite (P : Engine → Type 0) (e : Engine) (selector : ℕ) : Type 0 where
@@ -133,7 +142,7 @@ by-write P e selector by =
     (search) (λ n past o. by .none (omega arith)) refl
 
 performed-answer : (e : Engine) (c : Command) → c .op < length Ops.ops → Ops.performed e c .answer ≡ 0
-unfolding Orders.commanded Orders.interruptsRead
+unfolding Orders.commanded Orders.interruptsRead RunLine.ran
 performed-answer e c few =
     by-op (λ (x : Outcome). x .answer ≡ 0) e c few
     (record {
@@ -146,6 +155,7 @@ performed-answer e c few =
       mask = λ o. refl;
       status = λ o. refl;
       show = λ o. refl;
+      run = λ o. refl;
     })
 
 -- the answer of an outcome is the number of the first failed check

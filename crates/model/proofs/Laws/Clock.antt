@@ -9,16 +9,12 @@ use borrow.Author.Tests.{leb-false, ne-eqb}
 use Rattle.model.specs.declared.Clock.{Clock}
 use Rattle.model.specs.declared.Adjustment.{Adjustment}
 use Rattle.model.specs.declared.Steering.{Steering}
-use Rattle.model.specs.Clock.{shown, endOfTime, clockAt, cycleAmount, stepBy, remainderBy, ticked, isOver}
-use Rattle.model.specs.Clock.{noAdjustment, spent, steeringAfter}
+use Rattle.model.specs.Clock.{shown, exact, endOfTime, clockAt, cycleAmount, stepBy, remainderBy, ticked}
+use Rattle.model.specs.Clock.{isOver, noAdjustment, spent, steeringAfter}
 use Rattle.model.specs.Ranges.{clockOk, steeringOk, adjustmentOk}
 use Rattle.model.proofs.Laws.Tests.{split}
 use Rattle.model.specs.Bounds.{ClockIn, AmountIn}
 use Rattle.model.proofs.Laws.Ranges.{clock-ok, steering-in, steering-ok, adjustment-in, adjustment-ok}
-
--- the exact time of a clock, remainder included, in 2^-32 ns
-abbrev pub exact : Clock → ℕ
-exact k = shown k * 2 ^ 24 + k .remainder
 
 -- a step and what it leaves over make remainder plus amount
 pub step-left : (k : Clock) (amount : ℕ) → k .remainder + amount ≡ stepBy k amount * 16777216 + remainderBy k amount

@@ -50,6 +50,10 @@ pub record ArmFields (c : Command) : Type 0 where
   pub count : c .g < 2 ^ 32
   pub mark : c .h ≤ 1
 
+pub record RunFields (c : Command) : Type 0 where
+  pub some : 1 ≤ c .a
+  pub few : c .a ≤ 1000000
+
 module _ (c : Command) (ok : Fields.fieldsOk c ≡ true) where
   -- the tests of the list that the command's op has
   listed : (n : ℕ) → c .op ≡ n → Every (getD Fields.fieldLists n Fields.noFields c)
@@ -69,3 +73,6 @@ module _ (c : Command) (ok : Fields.fieldsOk c ≡ true) where
 
   pub mask-bits : c .op ≡ 6 → onlyBits enabledMask (c .a) ≡ true
   mask-bits o = listed 6 o .0
+
+  pub run-fields : c .op ≡ 9 → RunFields c
+  run-fields o = let f = listed 9 o in omega (arith, leb-true)

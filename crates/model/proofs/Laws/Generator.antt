@@ -12,7 +12,7 @@ use Rattle.model.specs.declared.Generator.{Generator}
 use Rattle.model.specs.declared.Instant.{Instant}
 use Rattle.model.specs.Generator
 use Rattle.model.specs.Ranges.{generatorOk}
-use Rattle.model.proofs.Laws.Tests.{split, both}
+use Rattle.model.proofs.Laws.Tests.{split, both, neither}
 use Rattle.model.specs.Bounds.{RunningIn}
 use Rattle.model.proofs.Laws.Ranges.{running-in, running-ok, idle-ok}
 
@@ -79,10 +79,6 @@ onward-in g a s h small more near =
 waiting : (g : Generator) (a s : ℕ) → RunningIn g a → Generator.isBefore g (a + s) ≡ false → RunningIn g (a + s)
 unfolding Generator.isBefore
 waiting g a s h b = omega (arith, ltb-false)
-
-neither : (a b : Bool) → (a || b) ≡ false → (a ≡ false) × (b ≡ false)
-neither true b h = (h, cc)
-neither false b h = (refl, h)
 
 abbrev GoodAt : ℕ → Generator → Type 0
 GoodAt now g = generatorOk g now ≡ true

@@ -1,7 +1,8 @@
 -- The values of an outcome are 16-bit words. A tick returns codes of at most 16, a read the words that it leaves in
 -- the record, which is valid again, op 8 the record's words, and the interrupt and status words have bits below 15;
--- every other value is 0. An answer is the number of a check.
-use Prim.Native.Nat.{ℕ, _+_, _*_, _<_, _≤_}
+-- a run returns its last tick's codes and its ticks, at most a million, in two words; every other value is 0. An answer
+-- is the number of a check.
+use Prim.Native.Nat.{ℕ, zero, suc, _+_, _*_, _<_, _≤_}
 use mathlib.Core.Path.{_≡_}
 use mathlib.Core.Bool.{true}
 use native.Mathlib.Omega.{arith}
@@ -15,7 +16,8 @@ use Rattle.model.specs.declared.Generator.{Generator}
 use Rattle.model.specs.Words.{noWords}
 use Rattle.model.specs.Edges.{edgeCode}
 use Rattle.model.specs.Generator.{placed, isDue, isRunning, isBefore, eighthOf, pendingTotal}
-use Rattle.model.specs.Tick.{tickStep, tickValues}
+use Rattle.model.specs.Tick.{tickStep, tickValues, ticks}
+use Rattle.model.specs.RunLine.{run, ran}
 use Rattle.model.specs.Orders
 use Rattle.model.specs.Ops.{performed}
 use Rattle.model.specs.Ranges.{valid, generatorOk}
@@ -24,10 +26,13 @@ use Rattle.model.specs.Checks.{lastNumber}
 use Rattle.model.specs.Execute.{execute}
 use Rattle.model.proofs.Laws.Tests.{split, both}
 use Rattle.model.proofs.Laws.Ranges.{Valid, valid-parts, running-in, words-in}
+use Rattle.model.proofs.Laws.Fields.{run-fields}
 use Rattle.model.proofs.Laws.Checks.{Accepted, by-answer, by-op}
 use Rattle.model.proofs.Laws.Interrupts.{interrupts-read, status-read}
 use Rattle.model.proofs.Laws.Lag.{eighth-few}
-use Rattle.model.proofs.Laws.Valid.{tick-step-bounds, performed-valid}
+use Rattle.model.proofs.Laws.Tick.{tick-step-bounds}
+use Rattle.model.proofs.Laws.RunTicks.{lastValues, ran-ticks, ticks-valid}
+use Rattle.model.proofs.Laws.Valid.{performed-valid}
 use Rattle.model.proofs.Laws.Outcomes.{answer-bounds}
 
 code-low : (direction eighth : ℕ) → eighth < 8 → edgeCode direction eighth ≤ 16
@@ -75,6 +80,19 @@ interrupt-values-in : (e : Engine) → valid e ≡ true → WordsIn (Orders.inte
 unfolding Orders.interruptsRead
 interrupt-values-in e h = let low = interrupts-read e h .others in omega arith
 
+-- the values of a run: codes of its last tick, and at most a million ticks in two words
+last-values-in : (e : Engine) (m : ℕ) → ((k : ℕ) → k ≤ m → Valid (ticks k e)) → WordsIn (lastValues m e)
+last-values-in e zero v = no-words-in
+last-values-in e (suc m) v = tick-values-in (ticks m e) (v m (omega arith))
+
+ran-values-in : (e : Engine) (a : ℕ) → Valid e → a ≤ 1000000 → WordsIn (ran e a .values)
+unfolding ran
+ran-values-in e a v few =
+    let r = ran-ticks a e in
+    let w : WordsIn (run a e .values) = rw (r .values) (last-values-in e (run a e .done) (ticks-valid a e v)) in
+    let most = r .few in
+    omega arith
+
 performed-values-in : (e : Engine) (c : Command) → Accepted e c → WordsIn (performed e c .values)
 performed-values-in e c k =
     let v = valid-parts e (k .valid) in
@@ -89,6 +107,7 @@ performed-values-in e c k =
       mask = λ o w. no-words-in;
       status = λ o w. let low = status-read e .above in omega arith;
       show = λ o w. words-in (e .words) (v .words);
+      run = λ o w. ran-values-in e (c .a) v (run-fields c (k .fields) o .few);
     })
     (performed-valid e c k)
 

@@ -29,6 +29,11 @@ pub or-right : (a b : Bool) → b ≡ true → (a || b) ≡ true
 or-right true b h = refl
 or-right false b h = h
 
+-- a disjunction that fails
+pub neither : (a b : Bool) → (a || b) ≡ false → (a ≡ false) × (b ≡ false)
+neither true b h = (h, cc)
+neither false b h = (refl, h)
+
 -- what a check asks, where it applies
 pub asked : (applies test : Bool) → (not applies || test) ≡ true → applies ≡ true → test ≡ true
 asked true test h a = h

@@ -20,7 +20,7 @@ use Rattle.model.proofs.Laws.Valid.{execute-valid}
 
 -- one op 0 without inputs
 module _ (e : Engine) (v : valid e ≡ true) (near : endsInTime e ≡ true) where
-  tick-answer : answerOf e noInputs ≡ 0
+  pub tick-answer : answerOf e noInputs ≡ 0
   unfolding answerOf checks fieldsOk fieldTests
   tick-answer = rw (v, near)
 

@@ -1,6 +1,6 @@
 -- A valid record stays valid: each op replaces parts of the record by parts that its checks, or the laws of those
 -- parts, keep in range; a refusal keeps the record as it is.
-use Prim.Native.Nat.{ℕ, _+_, _<_, _≤_}
+use Prim.Native.Nat.{ℕ, _≤_}
 use mathlib.Core.Path.{_≡_, refl}
 use mathlib.Core.Bool.{true, false}
 use native.Mathlib.Omega.{arith}
@@ -12,11 +12,11 @@ use Rattle.model.specs.declared.Command.{Command}
 use Rattle.model.specs.declared.Outcome.{Outcome}
 use Rattle.model.specs.declared.Words.{Words}
 use Rattle.model.specs.Words
-use Rattle.model.specs.Clock.{shown, endOfTime, cycleAmount}
+use Rattle.model.specs.Clock.{shown}
 use Rattle.model.specs.Fifo.{isEmpty}
 use Rattle.model.specs.Interrupts.{onlyBits}
 use Rattle.model.specs.Record
-use Rattle.model.specs.Tick
+use Rattle.model.specs.RunLine
 use Rattle.model.specs.Orders
 use Rattle.model.specs.Ops
 use Rattle.model.specs.Ranges
@@ -30,41 +30,14 @@ use Rattle.model.proofs.Laws.Ranges.{steering-in, steering-ok, adjustme
 use Rattle.model.specs.Bounds.{WordsIn}
 use Rattle.model.proofs.Laws.Ranges.{words-in}
 use Rattle.model.proofs.Laws.Words.{time-words-in, seconds-in-low, amount-words-in, count-low}
-use Rattle.model.proofs.Laws.Clock.{ticked-ok, shown-ticked, step-bounds, cycle-amount-in}
-use Rattle.model.proofs.Laws.Clock.{steering-after-ok}
-use Rattle.model.proofs.Laws.Fifo.{captured-ok, popped-ok, oldest-rising}
-use Rattle.model.proofs.Laws.Generator.{generated-ok, idle-generator-ok}
-use Rattle.model.proofs.Laws.Bits.{only-bits-latch}
-use Rattle.model.proofs.Laws.Fields.{TickFields, tick-fields, load-words, command-fields, arm-fields, mask-bits}
-use Rattle.model.proofs.Laws.Checks.{Accepted, by-answer, by-op, by-write}
+use Rattle.model.proofs.Laws.Fifo.{popped-ok, oldest-rising}
+use Rattle.model.proofs.Laws.Generator.{idle-generator-ok}
+use Rattle.model.proofs.Laws.Fields.{tick-fields, load-words, command-fields, arm-fields, mask-bits}
+use Rattle.model.proofs.Laws.Checks.{Accepted, tick-first, by-answer, by-op, by-write}
 use Rattle.model.proofs.Laws.Parts.{interrupts-in, interrupts-ok, none-latched, words-valid, steering-valid}
 use Rattle.model.proofs.Laws.Parts.{interrupts-valid, fifo-valid, fifo-at-ok, GeneratorOk, generator-valid}
-
--- 256 ≤ S ≤ 65,536 in a tick of a valid record
-pub tick-step-bounds : (e : Engine) → Valid e → (256 ≤ Tick.tickStep e) × (Tick.tickStep e ≤ 65536)
-tick-step-bounds e v =
-    step-bounds (e .clock) (cycleAmount (e .steering)) (clock-in (e .clock) (v .clock) .remainder)
-    (cycle-amount-in (e .steering) (v .steering))
-
--- op 0
-tick-valid : (e : Engine) (c : Command) → Valid e → shown (e .clock) + Tick.tickStep e < endOfTime
-    → TickFields c → Valid (Tick.tickEngine e c)
-unfolding Tick.tickEngine
-tick-valid e c v near f =
-    let i = interrupts-in (e .interrupts) (v .interrupts) in
-    let small = tick-step-bounds e v .1 in
-    let now = shown-ticked (e .clock) (cycleAmount (e .steering)) in
-    record {
-      clock = ticked-ok (e .clock) _ near;
-      steering = steering-after-ok (e .steering) (v .steering);
-      fifo1 = captured-ok (e .fifo1) _ _ (c .a) (f .input1) near (v .fifo1);
-      fifo2 = captured-ok (e .fifo2) _ _ (c .b) (f .input2) near (v .fifo2);
-      fifo3 = captured-ok (e .fifo3) _ _ (c .c) (f .input3) near (v .fifo3);
-      generator1 = rw now (generated-ok (e .generator1) _ _ small (v .generator1));
-      generator2 = rw now (generated-ok (e .generator2) _ _ small (v .generator2));
-      interrupts = interrupts-ok _ (only-bits-latch _ _ (i .0)) (i .1);
-      words = v .words;
-    }
+use Rattle.model.proofs.Laws.Tick.{tick-valid}
+use Rattle.model.proofs.Laws.RunTicks.{run-valid}
 
 -- op 2, the write
 module _ (e : Engine) (c : Command) (o : c .op ≡ 2) (k : Accepted e c) where
@@ -171,13 +144,18 @@ armed-ok e c o k =
     let scaled = mul-le-mul-right (c .f) ahead in
     running-ok (Orders.armedBy c) _ (omega (arith, ltb-true, leb-true))
 
+-- op 9
+ran-valid : (e : Engine) (a : ℕ) → Valid e → Valid (RunLine.ran e a .engine)
+unfolding RunLine.ran
+ran-valid e a v = run-valid a e v
+
 pub performed-valid : (e : Engine) (c : Command) → Accepted e c → Valid (Ops.performed e c .engine)
 performed-valid e c k =
     let v = valid-parts e (k .valid) in
     let i = interrupts-in (e .interrupts) (v .interrupts) in
     by-op (λ (x : Outcome). Valid (x .engine)) e c (k .op)
     (record {
-      tick = λ o. tick-valid e c v (ltb-true _ _ (k .check15 (eq-eqb _ _ o))) (tick-fields c (k .fields) o);
+      tick = λ o. tick-valid e c v (ltb-true _ _ (k .check15 (tick-first c o))) (tick-fields c (k .fields) o);
       load = λ o. words-valid e _ v (load-words c (k .fields) o);
       command = λ o. commanded-valid e c o k;
       arm = λ o. generator-valid e (c .a) _ v (armed-ok e c o k);
@@ -186,6 +164,7 @@ performed-valid e c k =
       mask = λ o. interrupts-valid e _ v (interrupts-ok _ (i .0) (mask-bits c (k .fields) o));
       status = λ o. v;
       show = λ o. v;
+      run = λ o. ran-valid e (c .a) v;
     })
 
 -- execute keeps a valid record valid

@@ -3,7 +3,7 @@ use mathlib.Core.Path.{sym, _∙_}
 use borrow.Author.Needs.{needs}
 use Rattle.model.proofs.Laws.Ranges.{valid-parts, clock-in}
 use Rattle.model.proofs.Laws.Clock.{cycle-amount-in}
-use Rattle.model.proofs.Laws.Valid.{tick-step-bounds}
+use Rattle.model.proofs.Laws.Tick.{tick-step-bounds}
 use Rattle.tick.proofs.Checked.{in-time-is, fields-refused, late-refused, ticks, cycle-gives}
 use Rattle.tick.proofs.tick.Statement.{statement}
 use Rattle.tick.proofs.tick.Tie as tie

@@ -1,0 +1,2 @@
+-- A run by formula: what its parts give, and what they ask.
+pub mod Runs

@@ -1,0 +1,38 @@
+//! What the run lines of a comparison did, so that one sees that they were tried.
+use crate::engine::{Command, Outcome};
+use std::fmt;
+
+#[derive(Default)]
+pub struct Runs {
+    runs: u64,
+    ticks: u64,
+    /// ended by an edge of generator 1 alone, of generator 2 alone, of both
+    edges: [u64; 3],
+    /// ended before a tick that would get 15
+    short: u64,
+}
+
+impl Runs {
+    pub fn told(&mut self, c: &Command, o: &Outcome) {
+        if c.op != 9 || o.answer != 0 {
+            return;
+        }
+        let [v1, v2, v3, v4, _] = o.values;
+        self.runs += 1;
+        self.ticks += v3 + v4 * 65536;
+        match (v1, v2) {
+            (0, 0) => self.short += u64::from(v3 + v4 * 65536 < c.f[0]),
+            (_, 0) => self.edges[0] += 1,
+            (0, _) => self.edges[1] += 1,
+            _ => self.edges[2] += 1,
+        }
+    }
+}
+
+impl fmt::Display for Runs {
+    fn fmt(&self, f: &mut fmt::Formatter) -> fmt::Result {
+        let Runs { runs, ticks, edges: [one, two, both], short } = self;
+        write!(f, "runs: {runs} of {ticks} ticks; ended by generator 1 {one}, by 2 {two}, by both {both}, ")?;
+        write!(f, "by the end of time {short}")
+    }
+}
