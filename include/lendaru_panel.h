@@ -140,8 +140,8 @@ lendaru_engine lendaru_power_on(void);
 lendaru_reply lendaru_execute(lendaru_engine *engine, lendaru_command command);
 
 /* A run on the lent record (in liblendaru_run.a): up to `a` ticks without inputs in one call, what lendaru_execute does
- * with op 9, `a` and seven zeros. It ends after the first tick that places an edge, or before a tick that would pass the
- * last second. Its cost does not grow with `a` (docs/PERFORMANCE.md).
+ * with op 9, `a` and seven zeros. It ends after the first tick that places an edge, or before a tick that would pass
+ * the last second. Its cost does not grow with `a` (docs/PERFORMANCE.md).
  *
  * Needs: `engine` points to a record, of any content; `a` is any number.
  *

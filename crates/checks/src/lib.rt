@@ -123,10 +123,9 @@ fn time_left(e: Engine, c: Command) -> bool
     requires { ⌜ valid e ≡ true ⌝ }
     ensures { λ r. ⌜ r ≡ passes e c 15 ⌝ }
 {
-    let step = clock::step_by(e.clock, clock::cycle_amount(e.steering));
     implies(
         either(c.op == 0, c.op == 9),
-        clock::ends_in_time(e.clock, step),
+        clock::has_time_left(e.clock, e.steering),
     )
 }
 

@@ -7,6 +7,7 @@ ghost use Prim.Native.Nat.{_+_, _*_, _<_, _≤_, _^_};
 ghost use lib.Dec.{leb, ltb};
 ghost use Rattle.model.specs.Clock.{shown, endOfTime, cycleAmount, stepBy, ticked, clockSet};
 ghost use Rattle.model.specs.Clock.{noAdjustment, spent};
+ghost use Rattle.model.specs.Ranges.{steeringOk};
 ghost use Rattle.model.specs.Bounds.{ClockIn};
 ghost use Rattle.clock.specs.Cycle.{steeredOf, Cycle};
 use model::Adjustment;
@@ -106,7 +107,7 @@ pub fn steer(s: Steering) -> Steered
 }
 
 // A tick of this step ends within the last second: in an earlier second always, in the last one by what it shows.
-pub fn ends_in_time(k: Clock, step: u64) -> bool
+fn ends_in_time(k: Clock, step: u64) -> bool
     requires { ⌜ (ClockIn k) × (step ≤ 65536) ⌝ }
     ensures { λ r. ⌜ r ≡ ltb (shown k + step) endOfTime ⌝ }
 {
@@ -114,6 +115,14 @@ pub fn ends_in_time(k: Clock, step: u64) -> bool
         k.seconds < 0xFFFF_FFFF_FFFF,
         k.nanoseconds * 256 + k.fraction + step < 256_000_000_000,
     )
+}
+
+// The next tick by this steering ends within the last second.
+pub fn has_time_left(k: Clock, s: Steering) -> bool
+    requires { ⌜ (ClockIn k) × (steeringOk s ≡ true) ⌝ }
+    ensures { λ r. ⌜ r ≡ ltb (shown k + stepBy k (cycleAmount s)) endOfTime ⌝ }
+{
+    ends_in_time(k, step_by(k, cycle_amount(s)))
 }
 
 // A start is not before the time shown: seconds first, then nanoseconds, where the clock shows no fraction. Whole

@@ -35,7 +35,9 @@ module _ (g : Generator) (k : Clock) (here : ℕ) (s : Steering) (amount : ℕ) 
     running = running-in g (shown k) (w .generator) runs
 
     pub far-none : k .seconds + 1 < g .pending .seconds → edgeTick g k s amount ≡ 0
-    far-none h = let c = w .inTime .clock in short (far g k running amount (omega (arith, w .inTime .short)) h (omega arith))
+    far-none h =
+        let c = w .inTime .clock in
+        short (far g k running amount (omega (arith, w .inTime .short)) h (omega arith))
 
     pub near : g .pending .seconds ≤ k .seconds + 1 → Near g k
     near h = record { clock = w .inTime .clock; running = running; near = h }

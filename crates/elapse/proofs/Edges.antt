@@ -1,15 +1,14 @@
--- Edges and the end of time as needs. A time shown is above the pending instant exactly when it is q + 1 or more, q being
--- the whole part of the instant in 1/256 ns; and a time is shown exactly when the cycles have brought what is missing.
+-- Edges and the end of time as needs. A time shown is above the pending instant exactly when it is q + 1 or more, q
+-- being the whole part of the instant in 1/256 ns; and it is shown exactly when the cycles have brought what is missing.
 use Prim.Native.Nat.{ℕ, suc, _+_, _*_, _-_, _/_, _≤_, _<_, _^_}
-use mathlib.Core.Path.{_≡_, refl, sym, ap, _∙_}
+use mathlib.Core.Path.{_≡_, refl, sym, _∙_}
 use mathlib.Core.Logic.{_↔_}
 use mathlib.Core.Bool.{Bool, true, false, _&&_, cond}
-use native.Mathlib.Nat.{div-lt-iff-lt-mul, le-div-iff-mul-le, mul-add-div-right}
+use native.Mathlib.Nat.{div-lt-iff-lt-mul, le-div-iff-mul-le}
 use native.Mathlib.Decide.{decLe}
 use native.Mathlib.Omega.{arith}
 use lib.Dec.{eqb, leb, ltb}
 use borrow.Author.Tests.{le-leb, lt-leb, lt-ltb, le-ltb, leb-true, leb-false, eqb-true, eqb-false}
-use Rattle.model.specs.declared.Clock.{Clock}
 use Rattle.model.specs.declared.Generator.{Generator}
 use Rattle.model.specs.declared.Engine.{Engine}
 use Rattle.model.specs.Clock.{shown, exact, endOfTime}

@@ -1,25 +1,24 @@
--- That products, sums and quotients fit into 64 bits: an amount is below 2^40 and a million of them below 2^60, less than
--- a second; a pending instant of this second or the next is less than two seconds away.
+-- That products, sums and quotients fit into 64 bits: an amount is below 2^40 and a million of them below 2^60, less
+-- than a second; a pending instant of this second or the next is less than two seconds away.
 use Prim.Native.Nat.{ℕ, _+_, _*_, _-_, _/_, _%_, _≤_, _<_, _^_, min}
-use mathlib.Core.Path.{_≡_, refl, ap}
+use mathlib.Core.Path.{_≡_, refl}
 use mathlib.Core.Bool.{Bool, true, false, not, cond}
 use native.Mathlib.Nat.{mul-le-mul, mul-le-mul-left, mul-add-div-right, div-lt-iff-lt-mul}
 use native.Mathlib.Omega.{arith}
 use lib.Dec.{eqb, leb}
-use borrow.Author.Tests.{leb-true, leb-false, ne-eqb}
+use borrow.Author.Tests.{leb-true, leb-false}
 use Rattle.model.specs.declared.Clock.{Clock}
 use Rattle.model.specs.declared.Adjustment.{Adjustment}
 use Rattle.model.specs.declared.Steering.{Steering}
 use Rattle.model.specs.declared.Generator.{Generator}
 use Rattle.model.specs.Clock.{shown, clockAtExact}
-use Rattle.model.specs.Generator.{isRunning, pendingTotal}
+use Rattle.model.specs.Generator.{pendingTotal}
 use Rattle.model.specs.Elapse.{amountOf}
 use Rattle.model.specs.Ranges.{adjustmentOk, steeringOk}
 use Rattle.model.specs.Bounds.{RunningIn}
 use Rattle.model.proofs.Laws.Tests.{split}
-use Rattle.model.proofs.Laws.Ranges.{steering-in, adjustment-in, no-adjustment-in, running-in}
+use Rattle.model.proofs.Laws.Ranges.{steering-in, adjustment-in, no-adjustment-in}
 use Rattle.elapse.specs.Reach.{second, inSecond, edgeTime, edgeNeed}
-use Rattle.elapse.specs.Asked.{Near, InTime, Reaching}
 use Rattle.elapse.proofs.Edges.{edge-later}
 
 -- an adjustment, running or not, is of few cycles and a small amount

@@ -1,5 +1,5 @@
--- An accepted command that is neither a tick nor a run; and one command on a valid record: the model's outcome, with a record that is
--- valid again.
+-- An accepted command that is neither a tick nor a run; and one command on a valid record: the model's outcome, with a
+-- record that is valid again.
 use mathlib.Core.Path.{_≡_}
 use mathlib.Core.Bool.{true, false}
 use lib.Dec.{eqb}

@@ -1,5 +1,6 @@
--- The examples, as one list proved by one statement: the starred ones of document 01, each cell of its tables of
--- words, and run lines. Each holds because the definitions compute: a run from power-on gives the numbers that the document states.
+-- The examples, as one list proved by one statement: the starred ones of document 01, each cell of its tables of words,
+-- and run lines. Each holds because the definitions compute: a run from power-on gives the numbers that the papers state
+-- or that were worked out from them.
 use Prim.Native.Nat.{ℕ}
 use mathlib.Core.Path.{_≡_, refl}
 use mathlib.Core.List.{List, [], _∷_, _++_, map}
@@ -67,20 +68,19 @@ stated-equal (x ∷ xs) h =
     rw (same-equal (x .found) (x .stated) (t .0), stated-equal xs (t .1))
 
 examples-tested : asStated examples ≡ true
-unfolding examples starred cells runLines timeCell amountCell countCell refusedCell asStated same answers lastValues values
-    shownAfter edgeAt edgesFrom verdict engineFrom historyFrom Words.secondsIn Words.nanosecondsIn
+unfolding examples starred cells runLines timeCell amountCell countCell refusedCell asStated same answers lastValues
+    values shownAfter edgeAt edgesFrom verdict engineFrom historyFrom Words.secondsIn Words.nanosecondsIn
     Words.aboveNanoseconds Words.wholeIn Words.fracIn Words.amountIn Words.belowFrac Words.countIn Words.timeWords
     Clock.cycleAmount Clock.stepBy Clock.remainderBy Clock.ticked Clock.spent Clock.lastCycle Clock.steeringAfter
-    Fifo.timestampNs Fifo.timestampOf Fifo.captured Fifo.capturesFirst Fifo.overflows Fifo.popped
-    Generator.nextInstant Generator.isBefore Generator.isDue Generator.eighthOf Generator.placed Generator.following
-    Generator.generated Generator.completesEvent Generator.completesSequence Interrupts.withBit Interrupts.latch
-    Interrupts.anyBoth Interrupts.interruptWord Interrupts.statusWord Interrupts.onlyBits Record.powerOn
-    Ranges.clockOk Ranges.adjustmentOk Ranges.steeringOk Ranges.timestampOk Ranges.placeOk Ranges.fifoOk
-    Ranges.generatorOk Ranges.interruptsOk Ranges.wordsOk Ranges.valid Fields.fieldTests Fields.fieldsOk Checks.checks
-    Checks.answerOf Tick.tickEvents Tick.tickEngine Tick.tickValues RunLine.hasEnded RunLine.oneMore
-    RunLine.run RunLine.ran Orders.written Orders.readWords Orders.readEngine
-    Orders.commanded Orders.interruptsRead Orders.statusOf Ops.performed Execute.execute Text.isValue Sheet.isLine
-    Sheet.sheetVerdict Sheet.commandsIn Text.decimal Results.results
+    Fifo.timestampNs Fifo.timestampOf Fifo.captured Fifo.capturesFirst Fifo.overflows Fifo.popped Generator.nextInstant
+    Generator.isBefore Generator.isDue Generator.eighthOf Generator.placed Generator.following Generator.generated
+    Generator.completesEvent Generator.completesSequence Interrupts.withBit Interrupts.latch Interrupts.anyBoth
+    Interrupts.interruptWord Interrupts.statusWord Interrupts.onlyBits Record.powerOn Ranges.clockOk Ranges.adjustmentOk
+    Ranges.steeringOk Ranges.timestampOk Ranges.placeOk Ranges.fifoOk Ranges.generatorOk Ranges.interruptsOk
+    Ranges.wordsOk Ranges.valid Fields.fieldTests Fields.fieldsOk Checks.checks Checks.answerOf Tick.tickEvents
+    Tick.tickEngine Tick.tickValues RunLine.hasEnded RunLine.oneMore RunLine.run RunLine.ran Orders.written
+    Orders.readWords Orders.readEngine Orders.commanded Orders.interruptsRead Orders.statusOf Ops.performed
+    Execute.execute Text.isValue Sheet.isLine Sheet.sheetVerdict Sheet.commandsIn Text.decimal Results.results
 examples-tested = refl
 
 -- every example is as stated

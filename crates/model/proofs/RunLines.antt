@@ -1,6 +1,6 @@
--- Run lines in terms of `execute` alone: an accepted op 9 is so many ops 0 without inputs, ended by its count, after the
--- first that places an edge, or before one that would get 15. And the formula: ticks that place no edge are `elapsed`,
--- for every number of them. Document 02, A.1.
+-- Run lines in terms of `execute` alone: an accepted op 9 is so many ops 0 without inputs, ended by its count, after
+-- the first that places an edge, or before one that would get 15. And the formula: ticks that place no edge are
+-- `elapsed`, for every number of them. Document 02, A.1.
 use Prim.Native.Nat.{ℕ, _+_, _-_, _<_, _≤_, _^_}
 use mathlib.Core.Path.{_≡_, sym, _∙_}
 use mathlib.Core.Logic.{_↔_}

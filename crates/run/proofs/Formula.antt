@@ -1,8 +1,8 @@
--- A run by formula. While nothing ends it, its next tick is the next step of the formula; and what has ended stays. So a
--- run is the formula over its quiet ticks, and one tick more where an edge falls.
+-- A run by formula. While nothing ends it, its next tick is the next step of the formula; and what has ended stays. So
+-- a run is the formula over its quiet ticks, and one tick more where an edge falls.
 use Prim.Native.Nat.{ℕ, zero, suc, _+_, _-_, _≤_, _<_}
 use mathlib.Core.Path.{_≡_, refl, ap, _∙_}
-use mathlib.Core.Bool.{true, false, _||_}
+use mathlib.Core.Bool.{true, _||_}
 use native.Mathlib.Nat.{zero-add, suc-add}
 use native.Mathlib.Decide.{ℕ-discrete}
 use native.Mathlib.Omega.{arith}
@@ -17,8 +17,8 @@ use Rattle.model.proofs.Laws.Ranges.{Valid, parts-valid}
 use Rattle.model.proofs.Laws.Interrupts.{placed-due}
 use Rattle.model.proofs.Laws.RunTicks.{run-valid}
 use Rattle.model.proofs.Laws.Ticks.{tick-answer}
-use Rattle.model.proofs.Laws.Elapse.{shownAfter, isDueBy, Quiet, due, shown-elapsed, due-elapsed, shown-grows, quiet-less}
-use Rattle.model.proofs.Laws.Elapse.{elapsed-zero, tick-elapsed, values-elapsed}
+use Rattle.model.proofs.Laws.Elapse.{shownAfter, isDueBy, Quiet, due, shown-elapsed, due-elapsed, shown-grows}
+use Rattle.model.proofs.Laws.Elapse.{quiet-less, elapsed-zero, tick-elapsed, values-elapsed}
 use Rattle.tick.specs.Ticks.{Ticks}
 use Rattle.run.specs.Runs.{quietly}
 

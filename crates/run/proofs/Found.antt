@@ -1,11 +1,10 @@
 -- The stretch that the code finds is the run: the ticks before the end of time, up to the earlier of the two edges. The
 -- tick of a generator's edge tells from which tick on it is due, and none where it is not due by the end.
-use Prim.Native.Nat.{ℕ, suc, _-_, _≤_, _<_, _^_, min}
+use Prim.Native.Nat.{ℕ, suc, _-_, _≤_, _<_, min}
 use mathlib.Core.Path.{_≡_, refl, sym, ap, _∙_}
-use mathlib.Core.Bool.{Bool, true, false, _||_, cond}
+use mathlib.Core.Bool.{true, false, _||_}
 use native.Mathlib.Decide.{ℕ-discrete, decLe}
 use native.Mathlib.Omega.{arith}
-use lib.Dec.{eqb, leb}
 use borrow.Author.Tests.{eq-eqb, ne-eqb, le-leb, lt-leb}
 use Rattle.model.specs.declared.Engine.{Engine}
 use Rattle.model.specs.declared.Generator.{Generator}
@@ -19,7 +18,7 @@ use Rattle.model.proofs.Laws.Tests.{or-right}
 use Rattle.model.proofs.Laws.Elapse.{shownAfter, isDueBy, Quiet, shown-grows, not-due-earlier}
 use Rattle.elapse.specs.Reach.{edgeTick, ticksInTime}
 use Rattle.elapse.proofs.Numbers.{amount-low}
-use Rattle.elapse.proofs.Edges.{edge-none, edge-some, EdgeIn, TimeFor, time-for}
+use Rattle.elapse.proofs.Edges.{edge-none, edge-some, TimeFor, time-for}
 use Rattle.tick.specs.Ticks.{Ticks}
 use Rattle.run.specs.Runs.{earliest, quietly}
 use Rattle.run.proofs.Formula.{elapsed-ticks, run-passes, run-meets}
@@ -81,11 +80,13 @@ module _ (e : Engine) (v : Valid e) (n : ℕ) (most : n ≤ 1000000) where
       → m ≡ few
   few-is h₁ h₂ = h₂ ∙ ap (ticksInTime (e .clock) (e .steering) n) h₁
 
-  pub first-is : {m within t₁ t₂ f : ℕ} → m ≡ few → within ≡ amountOf (e .steering) m
+  pub numbers-are : {amount m within t₁ t₂ f : ℕ} → amount ≡ amountOf (e .steering) n
+      → m ≡ ticksInTime (e .clock) (e .steering) n amount
+      → within ≡ amountOf (e .steering) m
       → t₁ ≡ edgeTick (e .generator1) (e .clock) (e .steering) within
       → t₂ ≡ edgeTick (e .generator2) (e .clock) (e .steering) within
-      → f ≡ earliest t₁ t₂ → f ≡ first
-  first-is h₁ h₂ h₃ h₄ h₅ = rw (h₅, h₃, h₄, h₂, h₁) refl
+      → f ≡ earliest t₁ t₂ → (m ≡ few) × (f ≡ first)
+  numbers-are h₁ h₂ h₃ h₄ h₅ h₆ = let is = few-is h₁ h₂ in (is, rw (h₆, h₄, h₅, h₃, is) refl)
 
   -- no edge: the run passes the ticks in time
   neither-has : first ≡ 0 → (one ≡ 0) × (two ≡ 0)
@@ -161,9 +162,6 @@ module _ (e : Engine) (v : Valid e) (n : ℕ) (most : n ≤ 1000000) where
   module _ (some : first ≡ 0 → ⊥) where
     x : Earlier first
     x = earlier some
-
-    pub first-some : 1 ≤ first
-    first-some = x .some
 
     pub first-most : first - 1 ≤ 1000000
     first-most = omega (arith, x .last, few-most)

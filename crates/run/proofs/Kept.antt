@@ -3,7 +3,7 @@ use Prim.Native.Nat.{ℕ, zero, suc}
 use mathlib.Core.Path.{_≡_, refl, sym}
 use Rattle.model.specs.declared.Engine.{Engine}
 use Rattle.model.specs.Fifo.{captured}
-use Rattle.model.specs.Tick.{tickEngine, noInputs, ticks}
+use Rattle.model.specs.Tick.{tickEngine, ticks}
 use Rattle.model.specs.RunLine.{run}
 use Rattle.model.proofs.Laws.RunTicks.{ran-ticks}
 use Rattle.change.specs.Changes.{applied}

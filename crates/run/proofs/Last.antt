@@ -1,5 +1,5 @@
--- The last tick of a run, in which an edge falls: inputs bring no event, so that the bits of the outputs are all; and the
--- quiet ticks before it left generators, words and mask as they were.
+-- The last tick of a run, in which an edge falls: inputs bring no event, so that the bits of the outputs are all; and
+-- the quiet ticks before it left generators, words and mask as they were.
 use Prim.Native.Nat.{ℕ}
 use mathlib.Core.Path.{_≡_, refl}
 use Rattle.model.specs.declared.Engine.{Engine}

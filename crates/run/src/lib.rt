@@ -138,8 +138,7 @@ pub fn run(e: Engine, c: Command) -> Change
     ensures { λ r. ⌜ Gives e c (execute e c) r ⌝ }
 {
     if fields::run_fields(c) {
-        let step = clock::step_by(e.clock, clock::cycle_amount(e.steering));
-        if clock::ends_in_time(e.clock, step) {
+        if clock::has_time_left(e.clock, e.steering) {
             return run_within(e, c.a);
         }
         return change_to(15, no_words(), e, false);

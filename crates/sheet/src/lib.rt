@@ -194,8 +194,7 @@ fn run_line_to(ok: bool, a: u64, end: usize) -> Next
     }
 }
 
-// The run line whose value begins at this index, behind "9,": one to seven digits, the first not 0, then seven zeros.
-// Not ok where another line stands there.
+// The run line whose value begins here, behind "9,": up to seven digits, the first not 0, then zeros; or not ok.
 fn run_at(s: &[u8], from: usize) -> Next
     requires { ⌜ from + 16 ≤ length (now s) ⌝ }
     ensures { λ r. ⌜ (r .line .ok ≡ true → RunAt (now (s .entry)) from r) ⌝ }
@@ -229,8 +228,7 @@ fn run_at(s: &[u8], from: usize) -> Next
     run_line_to(true, v, i + 14)
 }
 
-// The value line at an index. A last line with no line end is none. A run of up to seven digits, as most are, is read
-// at once.
+// The value line at an index. A last line with no line end is none. A run of up to seven digits is read at once.
 pub fn read_at(s: &[u8], at: usize) -> Next
     requires { ⌜ at ≤ length (now s) ⌝ }
     ensures { λ r. ⌜ ReadAt (now (s .entry)) at r ⌝ }

@@ -1,15 +1,12 @@
 -- A tick on a valid record has two checks: its fields, and the time that is left; no other check of the table speaks
 -- of op 0. And a tick that stores no timestamp leaves the FIFOs as they were.
-use Prim.Native.Nat.{ℕ, _+_}
 use mathlib.Core.Path.{_≡_, refl, sym, ap, _∙_}
 use mathlib.Core.Bool.{Bool, true, false, cond, _||_, false≢true}
-use lib.Dec.{ltb}
 use borrow.Author.Tests.{eq-eqb}
 use Rattle.model.specs.declared.Engine.{Engine}
 use Rattle.model.specs.declared.Command.{Command}
 use Rattle.model.specs.Tests.{every}
 use Rattle.model.specs.Words.{noWords}
-use Rattle.model.specs.Clock.{shown, endOfTime, cycleAmount, stepBy}
 use Rattle.model.specs.Outcome.{accepted}
 use Rattle.model.specs.Tick.{endsInTime, tickEngine, tickValues}
 use Rattle.model.specs.Ops.{performed}
@@ -22,11 +19,6 @@ use Rattle.change.proofs.Given.{refused-gives}
 use Rattle.fifo.specs.Capture.{arrivalOf}
 use Rattle.fifo.proofs.Arrivals.{not-stored}
 use Rattle.tick.specs.Ticks.{Ticks, storesAny}
-
--- the test on numbers that are worked out one after the other
-pub in-time-is : (e : Engine) {amount step : ℕ} {left : Bool} → amount ≡ cycleAmount (e .steering)
-    → step ≡ stepBy (e .clock) amount → left ≡ ltb (shown (e .clock) + step) endOfTime → endsInTime e ≡ left
-in-time-is e a s l = rw (l, s, a) refl
 
 module _ (e : Engine) (c : Command) (v : valid e ≡ true) (o : c .op ≡ 0) where
   tick-answer : answerOf e c ≡ cond (every (tickFields c)) (cond (endsInTime e) 0 15) 6

@@ -1,7 +1,7 @@
 -- An accepted run keeps the agreement: each of its ticks does, a tick that places no edge adds none to the ledger, and
 -- the edges of the last one are booked with the ledger before its step. Nothing here knows of the formula.
 use Prim.Native.Nat.{ℕ, zero, suc, _-_, _≤_, _<_}
-use mathlib.Core.Path.{_≡_, refl, sym, ap, _∙_}
+use mathlib.Core.Path.{_≡_, refl, ap}
 use mathlib.Core.List.{append-nil}
 use mathlib.Core.Bool.{true}
 use native.Mathlib.Omega.{arith}

@@ -17,7 +17,7 @@ use Rattle.model.specs.Generator
 use Rattle.model.specs.Interrupts.{positions, withBit, latch}
 use Rattle.model.specs.Ranges.{generatorOk}
 use Rattle.model.specs.Tick.{tickStep, tickEvents, tickEngine, tickValues, noInputs, ticks}
-use Rattle.model.specs.Elapse.{amountOf, steeringBy, latchedBy, elapsed}
+use Rattle.model.specs.Elapse.{amountOf, steeringBy, elapsed}
 use Rattle.model.proofs.Laws.Ranges.{Valid, clock-in, steering-in, running-in}
 use Rattle.model.proofs.Laws.Interrupts.{placed-due}
 use Rattle.model.proofs.Laws.Cycles

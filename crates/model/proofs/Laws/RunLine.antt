@@ -1,5 +1,5 @@
--- Why a run line is its ticks, in terms of `execute`. A tick of a valid record with time left is accepted and gives what
--- `ticks` says, so the facts of Laws.RunTicks are facts about ops 0; without time left it gets 15.
+-- Why a run line is its ticks, in terms of `execute`. A tick of a valid record with time left is accepted and gives
+-- what `ticks` says, so the facts of Laws.RunTicks are facts about ops 0; without time left it gets 15.
 use Prim.Native.Nat.{ℕ, zero, suc, _+_, _-_, _<_, _≤_, _^_}
 use mathlib.Core.Path.{_≡_, refl, sym, ap, _∙_}
 use mathlib.Core.Bool.{Bool, true, false, _||_, not}

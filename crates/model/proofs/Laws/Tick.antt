@@ -1,7 +1,6 @@
 -- One tick of a valid record: its step is that of an amount in range, and each part of the record stays in range by the
 -- laws of that part.
-use Prim.Native.Nat.{ℕ, _+_, _<_, _≤_}
-use mathlib.Core.Path.{_≡_}
+use Prim.Native.Nat.{_+_, _<_, _≤_}
 use Rattle.model.specs.declared.Engine.{Engine}
 use Rattle.model.specs.declared.Command.{Command}
 use Rattle.model.specs.Clock.{shown, endOfTime, cycleAmount}

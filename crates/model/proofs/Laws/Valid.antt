@@ -25,7 +25,7 @@ use Rattle.model.specs.Checks
 use Rattle.model.specs.Execute.{execute}
 use Rattle.model.proofs.Laws.Tests.{split, both-true, or-left, or-right}
 use Rattle.model.specs.Bounds.{AmountIn}
-use Rattle.model.proofs.Laws.Ranges.{Valid, valid-parts, parts-valid, clock-in, clock-ok}
+use Rattle.model.proofs.Laws.Ranges.{Valid, valid-parts, parts-valid, clock-ok}
 use Rattle.model.proofs.Laws.Ranges.{steering-in, steering-ok, adjustment-ok, running-ok}
 use Rattle.model.specs.Bounds.{WordsIn}
 use Rattle.model.proofs.Laws.Ranges.{words-in}

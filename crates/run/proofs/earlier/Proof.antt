@@ -1,5 +1,5 @@
 -- The definition's cases; of two ticks the smaller number is the earlier.
-use mathlib.Core.Path.{sym, _∙_}
+use mathlib.Core.Path.{sym}
 use native.Mathlib.Omega.{arith}
 use Rattle.run.proofs.Found.{none-left, none-right, both-some}
 use Rattle.run.proofs.earlier.Statement.{statement}

@@ -1,5 +1,5 @@
 -- Every part of the record is the formula's: the exact time, cut at the second shown, gains what the cycles bring.
-use Prim.Native.Nat.{ℕ, _+_, _*_, _^_}
+use Prim.Native.Nat.{ℕ, _+_, _*_}
 use mathlib.Core.Path.{_≡_}
 use native.Mathlib.Omega.{arith}
 use borrow.Author.Needs.{needs}

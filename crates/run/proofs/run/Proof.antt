@@ -1,54 +1,41 @@
 -- The two checks of a run line in the table's order, as a tick makes them, then the run.
-use mathlib.Core.Path.{sym, ap, _∙_}
-use native.Mathlib.Omega.{arith}
+use mathlib.Core.Path.{sym, _∙_}
 use borrow.Author.Needs.{needs}
 use Rattle.model.proofs.Laws.Ranges.{valid-parts, clock-in}
-use Rattle.model.proofs.Laws.Clock.{cycle-amount-in}
-use Rattle.model.proofs.Laws.Tick.{tick-step-bounds}
-use Rattle.tick.proofs.Checked.{in-time-is}
 use Rattle.run.proofs.Checked.{fields-refused, late-refused, run-gives, few-ticks}
 use Rattle.run.proofs.run.Statement.{statement}
 use Rattle.run.proofs.run.Tie as tie
 
-step-by-requires : tie.Need-step-by-requires
-step-by-requires c κs =
-    let v = valid-parts _ (c .before .before .before .pre .0) in
-    (clock-in _ (v .clock) .remainder, rw (c .cycle-amount .ensures) (cycle-amount-in _ (v .steering) .high))
-
-ends-in-time-requires : tie.Need-ends-in-time-requires
-ends-in-time-requires c κs =
-    let v = valid-parts _ (c .before .before .before .before .pre .0) in
-    (clock-in _ (v .clock), rw (c .step-by .ensures, c .before .cycle-amount .ensures) (tick-step-bounds _ v .1))
+has-time-left-requires : tie.Need-has-time-left-requires
+has-time-left-requires c κs =
+    let v = valid-parts _ (c .before .before .pre .0) in
+    (clock-in _ (v .clock), v .steering)
 
 run-within-requires : tie.Need-run-within-requires
 run-within-requires c κs =
-    let fields = c .before .before .before .before in
+    let fields = c .before .before in
     let start = fields .before .before in
     (start .pre .0, few-ticks (start .args .c) (sym (fields .before .run-fields .ensures) ∙ fields .if1 .taken))
 
 returns : tie.Need-returns
 returns c =
     let test = c .before in
-    let step = test .before .before in
-    let fields = step .before .before in
+    let fields = test .before .before in
     let start = fields .before .before in
-    let amount = step .before .cycle-amount .ensures in
-    let left = in-time-is (start .args .e) amount (step .step-by .ensures) (test .before .ends-in-time .ensures) in
     rw (c .run-within .ensures)
     (run-gives _ _ (start .pre .0) (start .pre .1)
-    (sym (fields .before .run-fields .ensures) ∙ fields .if1 .taken) (left ∙ test .if2 .taken))
+    (sym (fields .before .run-fields .ensures) ∙ fields .if1 .taken)
+    (sym (test .before .has-time-left .ensures) ∙ test .if2 .taken))
 
 returns-2 : tie.Need-returns-2
 returns-2 c =
     let test = c .before .before in
-    let step = test .before .before in
-    let fields = step .before .before in
+    let fields = test .before .before in
     let start = fields .before .before in
-    let amount = step .before .cycle-amount .ensures in
-    let left = in-time-is (start .args .e) amount (step .step-by .ensures) (test .before .ends-in-time .ensures) in
     rw (c .change-to .ensures, c .before .no-words .ensures)
     (late-refused _ _ (start .pre .0) (start .pre .1)
-    (sym (fields .before .run-fields .ensures) ∙ fields .if1 .taken) (left ∙ test .if2 .left))
+    (sym (fields .before .run-fields .ensures) ∙ fields .if1 .taken)
+    (sym (test .before .has-time-left .ensures) ∙ test .if2 .left))
 
 returns-3 : tie.Need-returns-3
 returns-3 c =
@@ -60,5 +47,5 @@ returns-3 c =
 pub run-spec : {M : Type 1} → statement M
 run-spec =
     tie.close
-    (tie.spec (search needs) (search needs) step-by-requires ends-in-time-requires run-within-requires returns
-    (search needs) (search needs) returns-2 (search needs) (search needs) returns-3)
+    (tie.spec (search needs) has-time-left-requires run-within-requires returns (search needs) (search needs)
+    returns-2 (search needs) (search needs) returns-3)

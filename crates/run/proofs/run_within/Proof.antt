@@ -4,7 +4,8 @@ use borrow.Author.Needs.{needs}
 use Rattle.model.proofs.Laws.Ranges.{valid-parts, clock-in}
 use Rattle.elapse.proofs.Numbers.{amount-low}
 use Rattle.run.specs.Runs.{ranTo}
-use Rattle.run.proofs.Found.{few-most, few-is, first-is, found-none, first-some, first-most, found-ticks, found-edge}
+use Rattle.run.proofs.Found.{few-most, few-is, numbers-are, found-none, first-most}
+use Rattle.run.proofs.Found.{found-ticks, found-edge}
 use Rattle.run.proofs.run_within.Statement.{statement}
 use Rattle.run.proofs.run_within.Tie as tie
 
@@ -70,12 +71,12 @@ returns c =
     let few = first .before .before .before .before in
     let p = few .before .before .before .pre in
     let v = valid-parts _ (p .0) in
-    let is = few-is _ v _ (p .1) (few .before .amount-of .ensures) (few .ticks-in-time .ensures) in
-    let found =
-    first-is _ v _ (p .1) is (first .before .before .before .amount-of2 .ensures)
-    (first .before .before .edge-tick .ensures) (first .before .edge-tick2 .ensures) (first .earlier .ensures)
+    let are =
+    numbers-are _ v _ (p .1) (few .before .amount-of .ensures) (few .ticks-in-time .ensures)
+    (first .before .before .before .amount-of2 .ensures) (first .before .before .edge-tick .ensures)
+    (first .before .edge-tick2 .ensures) (first .earlier .ensures)
     in
-    c .pass .ensures ∙ rw is (ap ranTo (sym (found-none _ v _ (p .1) (sym found ∙ test .if1 .taken))))
+    c .pass .ensures ∙ rw (are .0) (ap ranTo (sym (found-none _ v _ (p .1) (sym (are .1) ∙ test .if1 .taken))))
 
 meet-requires : tie.Need-meet-requires
 meet-requires c κs =
@@ -83,19 +84,19 @@ meet-requires c κs =
     let few = first .before .before .before .before in
     let p = few .before .before .before .pre in
     let v = valid-parts _ (p .0) in
-    let is = few-is _ v _ (p .1) (few .before .amount-of .ensures) (few .ticks-in-time .ensures) in
-    let found =
-    first-is _ v _ (p .1) is (first .before .before .before .amount-of2 .ensures)
-    (first .before .before .edge-tick .ensures) (first .before .edge-tick2 .ensures) (first .earlier .ensures)
+    let are =
+    numbers-are _ v _ (p .1) (few .before .amount-of .ensures) (few .ticks-in-time .ensures)
+    (first .before .before .before .amount-of2 .ensures) (first .before .before .edge-tick .ensures)
+    (first .before .edge-tick2 .ensures) (first .earlier .ensures)
     in
-    rw found
+    rw (are .1)
     (record {
       start = record {
         on = p .0;
         inHere = few .before .before .in-second .ensures;
-        few = first-most _ v _ (p .1) (λ z. c .if1 .left (found ∙ z));
+        few = first-most _ v _ (p .1) (λ z. c .if1 .left (are .1 ∙ z));
       };
-      more = found-ticks _ v _ (p .1) (λ z. c .if1 .left (found ∙ z));
+      more = found-ticks _ v _ (p .1) (λ z. c .if1 .left (are .1 ∙ z));
     })
 
 returns-2 : tie.Need-returns-2
@@ -105,12 +106,12 @@ returns-2 c =
     let few = first .before .before .before .before in
     let p = few .before .before .before .pre in
     let v = valid-parts _ (p .0) in
-    let is = few-is _ v _ (p .1) (few .before .amount-of .ensures) (few .ticks-in-time .ensures) in
-    let found =
-    first-is _ v _ (p .1) is (first .before .before .before .amount-of2 .ensures)
-    (first .before .before .edge-tick .ensures) (first .before .edge-tick2 .ensures) (first .earlier .ensures)
+    let are =
+    numbers-are _ v _ (p .1) (few .before .amount-of .ensures) (few .ticks-in-time .ensures)
+    (first .before .before .before .amount-of2 .ensures) (first .before .before .edge-tick .ensures)
+    (first .before .edge-tick2 .ensures) (first .earlier .ensures)
     in
-    c .meet .ensures ∙ rw found (ap ranTo (sym (found-edge _ v _ (p .1) (λ z. test .if1 .left (found ∙ z)))))
+    c .meet .ensures ∙ rw (are .1) (ap ranTo (sym (found-edge _ v _ (p .1) (λ z. test .if1 .left (are .1 ∙ z)))))
 
 pub run-within-spec : {M : Type 1} → statement M
 run-within-spec =
