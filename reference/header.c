@@ -1,16 +1,8 @@
 /* Holds the two headers to the static libraries: their numbers, and the place of every part of the record, by a tick
  * and by runs that were worked out by hand from the papers. reference/run compiles it as C and as C++. */
-#include <stdio.h>
-
 #include "lendaru.h"
 #include "lendaru_panel.h"
-
-static int same(const char *what, unsigned long long stated, unsigned long long told)
-{
-    if (stated != told)
-        printf("%s: stated %llu, by the library %llu\n", what, stated, told);
-    return stated == told;
-}
+#include "same.h"
 
 static int numbers(void)
 {
