@@ -59,7 +59,13 @@ fn accept(values: [u64; 5]) -> Outcome {
     Outcome { answer: 0, values }
 }
 
-fn words_of(ns: u128, edge: bool) -> [u64; 5] {
+/// The timestamp of an edge at this eighth of a tick that starts at a time shown and makes a step, both in 1/256 ns.
+pub fn timestamp(shown: u128, step: u128, eighth: u64) -> u128 {
+    (shown * 8 + u128::from(eighth) * step) / (8 * 256)
+}
+
+/// The five words of a time in nanoseconds.
+pub fn words_of(ns: u128, edge: bool) -> [u64; 5] {
     let (sec, ns) = ((ns / NS) as u64, (ns % NS) as u64);
     [sec % 65536, sec / 65536 % 65536, sec >> 32, ns % 65536, ns / 65536 + if edge { 32768 } else { 0 }]
 }
@@ -180,8 +186,8 @@ impl Engine {
             return;
         }
         let rising = code >= 9;
-        let eighth = u128::from(if rising { code - 9 } else { code - 1 });
-        let stamp = Stamp { ns: (shown * 8 + eighth * step) / (8 * 256), rising };
+        let eighth = if rising { code - 9 } else { code - 1 };
+        let stamp = Stamp { ns: timestamp(shown, step, eighth), rising };
         match self.stampers[i].len() {
             8 => self.latched |= OVERFLOW[i],
             n => {
