@@ -117,11 +117,6 @@ impl Ledger {
         self.owed > 0
     }
 
-    /// The edges that generator g has had since it was armed, if it was and was not stopped.
-    pub fn edges(&self, g: usize) -> Option<u128> {
-        self.orders[g].map(|order| order.edges)
-    }
-
     /// Op 0's step, with the codes that the tick returned for generators 1 and 2.
     fn tick(&mut self, v1: u64, v2: u64) {
         let amount = self.amount();
