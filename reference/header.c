@@ -14,7 +14,8 @@ static int numbers(void)
 
 /* At 5 s 7 ns: adjust by 9 ns and FRAC 0x40800020 for 3 cycles, mask TS1_NE, generator 2 from 5 s 10 ns at
  * 256 + 2/7 ns, 5 edges, no mark; then a tick with input 2 falling at eighth 0 and input 3 rising at eighth 4.
- * The step is 9.25 ns, so generator 2's edge rises at eighth 2 (24 / 9.25), and input 3's comes at 11.625 ns. */
+ * The step is 9.25 ns, so generator 2's edge rises at eighth 2 (24 / 9.25), and input 3's comes at 11.625 ns,
+ * of which 12 is the nearest. */
 static int advanced(lendaru_engine *e)
 {
     static const lendaru_command commands[] = {
@@ -105,7 +106,7 @@ int main(void)
     lendaru_engine e;
     int ok = numbers() & advanced(&e) & clock_and_words(&e);
     ok &= same("count of FIFO 1", 0, e.fifo1.count) & same("edges left of generator 1", 0, e.generator1.left);
-    ok &= holds_one(&e.fifo2, 7, 0) & holds_one(&e.fifo3, 11, 1) & generator_2(&e.generator2);
+    ok &= holds_one(&e.fifo2, 7, 0) & holds_one(&e.fifo3, 12, 1) & generator_2(&e.generator2);
     ok &= runs(&e);
     return !ok;
 }

@@ -59,9 +59,17 @@ fn accept(values: [u64; 5]) -> Outcome {
     Outcome { answer: 0, values }
 }
 
-/// The timestamp of an edge at this eighth of a tick that starts at a time shown and makes a step, both in 1/256 ns.
+/// The timestamp of an edge at this eighth of a tick that starts at a time shown and makes a step, both in 1/256 ns: to
+/// the nearest nanosecond, halves upward, and not past the last one.
 pub fn timestamp(shown: u128, step: u128, eighth: u64) -> u128 {
-    (shown * 8 + u128::from(eighth) * step) / (8 * 256)
+    let instant = shown * 8 + u128::from(eighth) * step;
+    let (below, rest) = (instant / 2048, instant % 2048);
+    let nearest = if rest < 1024 { below } else { below + 1 };
+    if nearest == END {
+        END - 1
+    } else {
+        nearest
+    }
 }
 
 /// The five words of a time in nanoseconds.

@@ -249,11 +249,15 @@ impl Engine {
         if fifo.count == 0 {
             self.latched |= 0x100 << (2 * i);
         }
-        let mut ns = (shown * 8 + (code - 1 & 7) * step) >> 11;
+        let mut ns = (shown * 8 + (code - 1 & 7) * step + 1024) >> 11;
         let mut sec = self.sec;
         if ns >= NS {
-            ns -= NS;
-            sec += 1;
+            if sec == LAST {
+                ns = NS - 1;
+            } else {
+                ns -= NS;
+                sec += 1;
+            }
         }
         fifo.entries[fifo.count as usize] = Stamp { sec, ns: ns as u32, rising: code >= 9 };
         fifo.count += 1;

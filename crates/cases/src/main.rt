@@ -29,6 +29,7 @@ fn edges() {
     run(b"edge_ninth_timestamp.csv");
     run(b"edge_start_at_the_time_shown.csv");
     run(b"edge_timestamp_in_the_next_second.csv");
+    run(b"edge_timestamp_to_the_nearest.csv");
 }
 
 // Document 01's whole example.

@@ -1,17 +1,25 @@
 // Timestamp FIFOs: an input edge is stamped and stored behind the others, and a read takes the oldest out and shifts
 // the rest down. Entries are an array by value of timestamps. Each function returns a definition of the model's
-// specs/Fifo.antt. Document 01, "Stamps and generators".
+// specs/Fifo.antt. Document 01, "Stamps and generators"; document 02, A.2.
 ghost use mathlib.Core.Path.{_≡_};
-ghost use Prim.Native.Nat.{_+_, _<_, _≤_};
+ghost use Prim.Native.Nat.{_+_, _*_, _<_, _≤_, min};
 ghost use lib.Dec.{eqb};
 ghost use Rattle.model.specs.Clock.{shown};
-ghost use Rattle.model.specs.Fifo.{emptyFifo, noTimestamp, entry, timestampOf, captured, popped};
-ghost use Rattle.fifo.specs.Capture.{EighthOf, OffsetOf, Stamping, Capturing, pushed, arrivalOf};
+ghost use Rattle.model.specs.Edges.{codeRising};
+ghost use Rattle.model.specs.Fifo.{emptyFifo, noTimestamp, entry, lastNanosecond, timestampAt, timestampOf};
+ghost use Rattle.model.specs.Fifo.{captured, popped};
+ghost use Rattle.fifo.specs.Capture.{EighthOf, OffsetOf, Stamping, NearestOf, Carrying, Capturing};
+ghost use Rattle.fifo.specs.Capture.{pushed, arrivalOf};
 use model::Clock;
 use model::Fifo;
 use model::NS_PER_SECOND;
 use model::Timestamp;
 use tests::pick;
+
+// Half a nanosecond, in eighths of 1/256 ns.
+const HALF: u64 = 1024;
+
+const LAST_SECOND: u64 = 0xFFFF_FFFF_FFFF;
 
 // What becomes of an input's edge in a tick: stored, and perhaps the first in its FIFO (NE), or dropped (OF).
 pub struct Arrival {
@@ -57,7 +65,15 @@ fn eighth(code: u64) -> u64
     requires { ⌜ (0 < code) × (code ≤ 16) ⌝ }
     ensures { λ r. ⌜ EighthOf code r ⌝ }
 {
-    if code <= 8 { code - 1 } else { code - 9 }
+    (code - 1) % 8
+}
+
+// The direction of an edge, by its code: 1 rising, 0 falling.
+fn rising(code: u64) -> u64
+    requires { ⌜ (0 < code) × (code ≤ 16) ⌝ }
+    ensures { λ r. ⌜ r ≡ codeRising code ⌝ }
+{
+    (code - 1) / 8
 }
 
 // p × S, in eighths of 1/256 ns.
@@ -68,17 +84,38 @@ fn offset(step: u64, code: u64) -> u64
     eighth(code) * step
 }
 
-// A + p × S / 8 with its carries, the fraction of a nanosecond dropped.
+// A + p × S / 8 to the nearest nanosecond, counted from the start of A's second: half of one is added and the rest
+// dropped. Document 02, A.2.
+fn nearest(k: Clock, step: u64, code: u64) -> u64
+    requires { ⌜ Stamping k step code ⌝ }
+    ensures { λ r. ⌜ NearestOf k step code r ⌝ }
+{
+    k.nanoseconds + (8 * k.fraction + offset(step, code) + HALF) / 2048
+}
+
+// Nanoseconds counted from the start of a second, with their carry into the next. The last second has none: a carry
+// there can only be one nanosecond too many, which is taken off.
+fn carried(seconds: u64, nanoseconds: u64, rising: u64) -> Timestamp
+    requires { ⌜ Carrying seconds nanoseconds ⌝ }
+    ensures { λ r. ⌜ r ≡ timestampAt (min lastNanosecond (seconds * 1000000000 + nanoseconds)) rising ⌝ }
+{
+    let last = LAST_SECOND <= seconds;
+    let carry = nanoseconds / NS_PER_SECOND;
+    let past = pick(last, carry, 0);
+    let kept = carry - past;
+    Timestamp {
+        seconds: seconds + kept,
+        nanoseconds: nanoseconds - past - kept * NS_PER_SECOND,
+        rising: rising,
+    }
+}
+
+// The timestamp of an edge.
 fn timestamp(k: Clock, step: u64, code: u64) -> Timestamp
     requires { ⌜ Stamping k step code ⌝ }
     ensures { λ r. ⌜ r ≡ timestampOf (shown k) step code ⌝ }
 {
-    let nanoseconds = k.nanoseconds + (8 * k.fraction + offset(step, code)) / 2048;
-    Timestamp {
-        seconds: k.seconds + nanoseconds / NS_PER_SECOND,
-        nanoseconds: nanoseconds % NS_PER_SECOND,
-        rising: pick(code <= 8, 0, 1),
-    }
+    carried(k.seconds, nearest(k, step, code), rising(code))
 }
 
 // The timestamp in the first unused place.

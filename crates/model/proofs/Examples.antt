@@ -1,6 +1,6 @@
 -- The examples, as one list proved by one statement: the starred ones of document 01, each cell of its tables of words,
--- and run lines. Each holds because the definitions compute: a run from power-on gives the numbers that the papers state
--- or that were worked out from them.
+-- run lines and timestamps. Each holds because the definitions compute: a run from power-on gives the numbers that the
+-- papers state or that were worked out from them.
 use Prim.Native.Nat.{ℕ}
 use mathlib.Core.Path.{_≡_, refl}
 use mathlib.Core.List.{List, [], _∷_, _++_, map}
@@ -30,14 +30,16 @@ use Rattle.model.proofs.Examples.Runs.{Example, answers, lastValues, va
 use Rattle.model.proofs.Examples.Starred.{shownAfter, edgeAt, edgesFrom, verdict, starred}
 use Rattle.model.proofs.Examples.Cells.{timeCell, amountCell, countCell, refusedCell, cells}
 use Rattle.model.proofs.Examples.RunLines.{runLines}
--- commands, the three parts of the list
+use Rattle.model.proofs.Examples.Timestamps.{timestamps}
+-- commands, the four parts of the list
 pub mod Runs
 pub mod Starred
 pub mod Cells
 pub mod RunLines
+pub mod Timestamps
 
 pub examples : List Example
-examples = starred ++ cells ++ runLines
+examples = starred ++ cells ++ runLines ++ timestamps
 
 -- two lists of numbers are compared number by number, so that a list that is not as stated fails at once
 same : List ℕ → List ℕ → Bool
@@ -68,8 +70,8 @@ stated-equal (x ∷ xs) h =
     rw (same-equal (x .found) (x .stated) (t .0), stated-equal xs (t .1))
 
 examples-tested : asStated examples ≡ true
-unfolding examples starred cells runLines timeCell amountCell countCell refusedCell asStated same answers lastValues
-    values shownAfter edgeAt edgesFrom verdict engineFrom historyFrom Words.secondsIn Words.nanosecondsIn
+unfolding examples starred cells runLines timestamps timeCell amountCell countCell refusedCell asStated same answers
+    lastValues values shownAfter edgeAt edgesFrom verdict engineFrom historyFrom Words.secondsIn Words.nanosecondsIn
     Words.aboveNanoseconds Words.wholeIn Words.fracIn Words.amountIn Words.belowFrac Words.countIn Words.timeWords
     Clock.cycleAmount Clock.stepBy Clock.remainderBy Clock.ticked Clock.spent Clock.lastCycle Clock.steeringAfter
     Fifo.timestampNs Fifo.timestampOf Fifo.captured Fifo.capturesFirst Fifo.overflows Fifo.popped Generator.nextInstant

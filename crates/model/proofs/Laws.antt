@@ -22,6 +22,7 @@ pub mod RunTicks
 pub mod Valid
 pub mod Ticks
 pub mod Outcomes
+pub mod Timestamps
 -- ticks by formula: the clock and the steering, the record; a run line by `execute` alone
 pub mod Cycles
 pub mod Elapse

@@ -3,6 +3,7 @@ pub mod Demand1
 pub mod Demand2
 pub mod Demand3
 pub mod RunLines
+pub mod Timestamps
 pub mod Sheets
 pub mod Examples
 pub mod Laws

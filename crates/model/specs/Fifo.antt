@@ -1,5 +1,5 @@
 -- Timestamp FIFOs. Document 01, "Stamps and generators"; sheet 000, 6.13.4.
-use Prim.Native.Nat.{ℕ, _+_, _*_, _-_, _/_, _%_}
+use Prim.Native.Nat.{ℕ, _+_, _*_, _-_, _/_, _%_, _^_, min}
 use mathlib.Core.List.{[], _∷_}
 use mathlib.Core.Bool.{Bool, _&&_, _||_, not, cond}
 use lib.ListN.{getD, set, replicate}
@@ -14,17 +14,25 @@ noTimestamp = record { seconds = 0; nanoseconds = 0; rising = 0 }
 abbrev pub emptyFifo : Fifo
 emptyFifo = record { entries = replicate 8 noTimestamp; count = 0 }
 
--- A + p × S / 8 in whole ns, the fraction of a nanosecond dropped; A and S are in 1/256 ns
+-- 999,999,999 ns of the last second
+abbrev pub lastNanosecond : ℕ
+lastNanosecond = 2 ^ 48 * 1000000000 - 1
+
+-- A + p × S / 8 to the nearest ns, a half upward; A and S are in 1/256 ns. Document 02, A.2.
+abbrev pub nearestNs : ℕ → ℕ → ℕ → ℕ
+nearestNs a s p = (8 * a + p * s + 8 * 128) / (8 * 256)
+
+-- the same, and never past the last one
 unfoldable pub timestampNs : ℕ → ℕ → ℕ → ℕ
-timestampNs a s p = (8 * a + p * s) / (8 * 256)
+timestampNs a s p = min lastNanosecond (nearestNs a s p)
+
+-- so many ns since zero, as a timestamp
+abbrev pub timestampAt : ℕ → ℕ → Timestamp
+timestampAt ns rising = record { seconds = ns / 1000000000; nanoseconds = ns % 1000000000; rising = rising }
 
 -- the timestamp of an input edge in a tick of step s from the time shown a
 unfoldable pub timestampOf : ℕ → ℕ → ℕ → Timestamp
-timestampOf a s code = record {
-  seconds = timestampNs a s (codeEighth code) / 1000000000;
-  nanoseconds = timestampNs a s (codeEighth code) % 1000000000;
-  rising = codeRising code;
-}
+timestampOf a s code = timestampAt (timestampNs a s (codeEighth code)) (codeRising code)
 
 abbrev pub isEmpty : Fifo → Bool
 isEmpty f = eqb (f .count) 0

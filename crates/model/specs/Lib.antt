@@ -18,13 +18,15 @@ pub mod RunLine
 pub mod Elapse
 pub mod Orders
 pub mod Ops
--- the record's ranges (number 4), the field lists (number 6), the table of checks; the checks, then the op; a run
+-- the record's ranges (number 4), the field lists (number 6), the table of checks; the checks, then the op; a run, and
+-- the timestamps in it
 pub mod Ranges
 pub mod Bounds
 pub mod Fields
 pub mod Checks
 pub mod Execute
 pub mod Run
+pub mod Timestamps
 -- the command sheet: text, the sheet's own checks (numbers 1 to 3) and its commands, and what its run prints
 pub mod Text
 pub mod Sheet

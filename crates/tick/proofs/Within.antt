@@ -60,4 +60,9 @@ module _ (e : Engine) (c : Command) (t : Ticks e c) where
   codes-few = tick-fields c (facts .fields) (t .op)
 
   pub capturing : (code : ℕ) → code ≤ 16 → Capturing (e .clock) (tickStep e) code
-  capturing code few = record { clock = clock-within; low = tick-step-bounds e parts .1; few = few }
+  capturing code few = record {
+    clock = clock-within;
+    low = tick-step-bounds e parts .1;
+    near = ltb-true _ _ (facts .check15 (tick-first c (t .op)));
+    few = few;
+  }

@@ -18,6 +18,7 @@ returns : tie.Need-returns
 returns c =
     record {
       is = ap (λ (p : ℕ). p * c .before .args .step) (c .eighth .ensures .is);
+      part = mul-le-mul-right (c .before .args .step) (c .eighth .ensures .low);
       low = small _ _ (c .eighth .ensures .low) (c .before .pre .0);
     }
 

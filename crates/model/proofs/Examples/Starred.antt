@@ -1,7 +1,7 @@
 -- The starred examples of document 01, "Edges of the rules"; at their end some of "Command sheet" that are not starred,
 -- the whole example among them.
 use Prim.Native.Nat.{ℕ, suc, _+_}
-use mathlib.Core.List.{List, [], _∷_, _++_}
+use mathlib.Core.List.{List, [], _∷_, _++_, map}
 use mathlib.Core.Bool.{cond}
 use lib.ListN.{length, replicate}
 use lib.Dec.{eqb}
@@ -80,10 +80,14 @@ starred =
       stated = 0 ∷ 0 ∷ 0 ∷ 17 ∷ 0 ∷ [];
     }
     -- A ninth unread stamp: dropped (eight reads find one, the ninth is refused with 7), OF (bit 9, beside NE, bit
-    -- 8).
+    -- 8). The first eight are kept, of ticks at 0, 8 and so on to 56 ns.
     ∷ record {
       found = answers (replicate 9 (input 1) ++ replicate 9 (read 1));
       stated = replicate 9 0 ++ replicate 8 0 ++ 7 ∷ [];
+    }
+    ∷ record {
+      found = map (λ (x : Entry). x .values .w4) (history (replicate 9 (input 1) ++ replicate 8 (read 1)));
+      stated = replicate 9 0 ++ 0 ∷ 8 ∷ 16 ∷ 24 ∷ 32 ∷ 40 ∷ 48 ∷ 56 ∷ [];
     }
     ∷ record {
       found = values (replicate 9 (input 1) ++ line 5 0 0 0 0 0 ∷ []);

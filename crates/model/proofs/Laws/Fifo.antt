@@ -9,8 +9,8 @@ use mathlib.Core.Path.{_≡_, refl, sym, ap, _∙_}
 use mathlib.Core.Logic.{_≢_}
 use mathlib.Core.List.{List, [], _∷_}
 use mathlib.Core.Bool.{Bool, true, false, _||_, cond}
-use lib.ListN.{getD, set}
-use lib.Seq.{getD-set-other}
+use lib.ListN.{getD, set, length}
+use lib.Seq.{getD-set-same, getD-set-other}
 use lib.Dec.{eqb, leb, ltb, leb·suc-suc}
 use borrow.Author.Tests.{eqb-true, ltb-true, leb-true, leb-false, eqb-false, lt-ltb, le-ltb, le-leb}
 use Rattle.model.specs.declared.Timestamp.{Timestamp}
@@ -29,7 +29,7 @@ empty-fifo-ok = refl
 
 -- ---- the timestamp of an edge
 
-eighth-small : (code : ℕ) → code ≤ 16 → codeEighth code ≤ 7
+pub eighth-small : (code : ℕ) → code ≤ 16 → codeEighth code ≤ 7
 eighth-small code h = go (leb code 8) refl
   where
     go : (low : Bool) → leb code 8 ≡ low → cond low (code - 1) (code - 9) ≤ 7
@@ -113,27 +113,31 @@ written-ok [] n t h = refl
 written-ok (x ∷ xs) zero t h = h
 written-ok (x ∷ xs) (suc n) t h = written-ok xs n t h
 
-abbrev stored : Fifo → Timestamp → Fifo
+abbrev pub stored : Fifo → Timestamp → Fifo
 stored f t = record { entries = set (f .entries) (f .count) t; count = f .count + 1 }
 
-module _ (f : Fifo) (t : Timestamp) (ok : timestampOk t ≡ true) (r : InRange f) where
-  other : (i : ℕ) → i ≢ f .count → entry (stored f t) i ≡ entry f i
-  other i h = getD-set-other (f .entries) (f .count) i t noTimestamp h
+-- it is read where it was written, in a list with that place, and every other place is as it was
+pub read-stored : (f : Fifo) (t : Timestamp) → f .count < length (f .entries) → entry (stored f t) (f .count) ≡ t
+read-stored f t h = getD-set-same (f .entries) (f .count) t noTimestamp h
 
+pub others-kept : (f : Fifo) (t : Timestamp) (j : ℕ) → j ≢ f .count → entry (stored f t) j ≡ entry f j
+others-kept f t j h = getD-set-other (f .entries) (f .count) j t noTimestamp h
+
+module _ (f : Fifo) (t : Timestamp) (ok : timestampOk t ≡ true) (r : InRange f) where
   stored-place : (i : ℕ) → i < 8 → placeOk (stored f t) i ≡ true
   stored-place i l = go (decLt i (f .count)) (ℕ-discrete i (f .count))
     where
       go : Dec (i < f .count) → Dec (i ≡ f .count) → placeOk (stored f t) i ≡ true
       go (yes u) d =
           place-used (stored f t) i (omega arith)
-          ∙ ap timestampOk (other i (omega arith))
+          ∙ ap timestampOk (others-kept f t i (omega arith))
           ∙ sym (place-used f i u)
           ∙ r .places i l
       go (no u) (yes e) =
           place-used (stored f t) i (omega arith) ∙ rw e (written-ok (f .entries) (f .count) t ok)
       go (no u) (no e) =
           place-unused (stored f t) i (omega arith)
-          ∙ ap timestampZero (other i e)
+          ∙ ap timestampZero (others-kept f t i e)
           ∙ sym (place-unused f i (omega arith))
           ∙ r .places i l
 
