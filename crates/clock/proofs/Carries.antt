@@ -1,8 +1,8 @@
 -- Carries against totals: with each place below its limit, adding to the lowest place and carrying is splitting the
 -- total, and comparing place by place is comparing totals.
 use mathlib.Core.Path.{_≡_, sym, _∙_}
-use mathlib.Core.Bool.{true, false, _||_, _&&_}
-use Prim.Native.Nat.{ℕ, _+_, _*_, _/_, _%_, _<_, _≤_}
+use mathlib.Core.Bool.{true, false, _||_, _&&_, cond}
+use Prim.Native.Nat.{ℕ, _+_, _*_, _-_, _/_, _%_, _<_, _≤_}
 use native.Mathlib.Decide.{decLt, ℕ-discrete}
 use native.Mathlib.Omega.{arith}
 use lib.Dec.{ltb, leb, eqb}
@@ -11,36 +11,48 @@ use Rattle.model.specs.declared.Clock.{Clock}
 use Rattle.model.specs.Clock.{shown, endOfTime, clockAt}
 use Rattle.model.specs.Bounds.{ClockIn}
 use Rattle.tests.proofs.Places.{by-place, same-test}
+use Rattle.tests.proofs.Carry.{Carries, carries}
 
-module _ (s n f d : ℕ) (n-low : n < 1000000000) (f-low : f < 256) where
+-- d more in the fraction, and c seconds carried
+module _ (s n f d c : ℕ) (n-low : n < 1000000000) (f-low : f < 256) (full : c * 1000000000 ≤ n + (f + d) / 256)
+    (most : n + (f + d) / 256 < (c + 1) * 1000000000) where
   fraction : (f + d) % 256 ≡ ((s * 1000000000 + n) * 256 + f + d) % 256
   fraction = omega arith
 
-  nanoseconds : (n + (f + d) / 256) % 1000000000 ≡ ((s * 1000000000 + n) * 256 + f + d) / 256 % 1000000000
+  nanoseconds : n + (f + d) / 256 - c * 1000000000 ≡ ((s * 1000000000 + n) * 256 + f + d) / 256 % 1000000000
   nanoseconds = omega arith
 
-  seconds : s + (n + (f + d) / 256) / 1000000000 ≡ ((s * 1000000000 + n) * 256 + f + d) / 256 / 1000000000
+  seconds : s + c ≡ ((s * 1000000000 + n) * 256 + f + d) / 256 / 1000000000
   seconds = omega arith
 
 -- a clock that gains d, place by place
-pub carried : (k : Clock) (d r : ℕ) → ClockIn k
-    → _≡_ {A = Clock}
-    (record {
-      seconds = k .seconds + (k .nanoseconds + (k .fraction + d) / 256) / 1000000000;
-      nanoseconds = (k .nanoseconds + (k .fraction + d) / 256) % 1000000000;
-      fraction = (k .fraction + d) % 256;
-      remainder = r;
-    })
-    (clockAt (shown k + d) r)
-carried k d r i =
-    let p = k .seconds in
-    let q = k .nanoseconds in
-    let f = k .fraction in
-    simp (
-      fraction p q f d (i .nanoseconds) (i .fraction),
-      nanoseconds p q f d (i .nanoseconds) (i .fraction),
-      seconds p q f d (i .nanoseconds) (i .fraction),
-    )
+module _ (k : Clock) (d c : ℕ) (i : ClockIn k) (low : d ≤ 65536)
+    (is : c ≡ cond (leb 1000000000 (k .nanoseconds + (k .fraction + d) / 256)) 1 0) where
+  abbrev sum : ℕ
+  sum = k .nanoseconds + (k .fraction + d) / 256
+
+  pub second-carries : Carries 1000000000 sum c
+  second-carries = let f = i .fraction in let n = i .nanoseconds in carries 1000000000 sum c is (omega arith)
+
+  pub carried : (r : ℕ)
+      → _≡_ {A = Clock}
+      (record {
+        seconds = k .seconds + c;
+        nanoseconds = sum - c * 1000000000;
+        fraction = (k .fraction + d) % 256;
+        remainder = r;
+      })
+      (clockAt (shown k + d) r)
+  carried r =
+      let p = k .seconds in
+      let q = k .nanoseconds in
+      let f = k .fraction in
+      let one = second-carries in
+      simp (
+        fraction p q f d c (i .nanoseconds) (i .fraction) (one .full) (one .most),
+        nanoseconds p q f d c (i .nanoseconds) (i .fraction) (one .full) (one .most),
+        seconds p q f d c (i .nanoseconds) (i .fraction) (one .full) (one .most),
+      )
 
 -- a tick of d ends within the last second
 pub in-time : (k : Clock) (d : ℕ) → ClockIn k → d ≤ 65536

@@ -41,9 +41,10 @@ pub fn tick_clock(k: Clock, amount: u64, step: u64) -> Clock
 {
     let fraction = k.fraction + step;
     let nanoseconds = k.nanoseconds + fraction / 256;
+    let carry = pick(NS_PER_SECOND <= nanoseconds, 1, 0);
     Clock {
-        seconds: k.seconds + nanoseconds / NS_PER_SECOND,
-        nanoseconds: nanoseconds % NS_PER_SECOND,
+        seconds: k.seconds + carry,
+        nanoseconds: nanoseconds - carry * NS_PER_SECOND,
         fraction: fraction % 256,
         remainder: (k.remainder + amount) % STEP_UNIT,
     }

@@ -1,5 +1,6 @@
 -- Edges and the end of time as needs. A time shown is above the pending instant exactly when it is q + 1 or more, q
--- being the whole part of the instant in 1/256 ns; and it is shown exactly when the cycles have brought what is missing.
+-- being the whole part of the instant in 1/256 ns; and it is shown exactly when the cycles have brought what is
+-- missing.
 use Prim.Native.Nat.{ℕ, suc, _+_, _*_, _-_, _/_, _≤_, _<_, _^_}
 use mathlib.Core.Path.{_≡_, refl, sym, _∙_}
 use mathlib.Core.Logic.{_↔_}
@@ -16,6 +17,7 @@ use Rattle.model.specs.Generator.{isRunning, isBefore, pendingTotal}
 use Rattle.model.specs.Elapse.{amountOf}
 use Rattle.model.specs.Ranges.{generatorOk}
 use Rattle.model.specs.Bounds.{ClockIn, RunningIn}
+use Rattle.model.proofs.Laws.Tests.{leb-same}
 use Rattle.model.proofs.Laws.Ranges.{Valid, clock-in, running-in}
 use Rattle.model.proofs.Laws.Elapse.{shownAfter, isDueBy}
 use Rattle.elapse.specs.Reach.{second, inSecond, cyclesTo, edgeTime, edgeNeed, edgeTick, ticksInTime}
@@ -42,14 +44,6 @@ ltb-mul x t d pos =
 before-time : (g : Generator) (t : ℕ) → 0 < g .denominator → isBefore g t ≡ leb (edgeTime g) t
 unfolding isBefore edgeTime
 before-time g t pos = ltb-mul (pendingTotal g * 256) t (g .denominator) pos
-
--- two tests of order that say the same
-leb-same : (a b c d : ℕ) → (a ≤ b) ↔ (c ≤ d) → leb a b ≡ leb c d
-leb-same a b c d h =
-    elim (decLe a b) [
-      | yes l ↦ rw (le-leb a b l, le-leb c d (h .0 l))
-      | no l ↦ let n : c ≤ d → ⊥ = λ m. l (h .1 m) in rw (lt-leb a b (omega arith), lt-leb c d (omega arith))
-    ]
 
 -- a running generator of a valid record has its edge above the time shown
 pub edge-later : (g : Generator) (now : ℕ) → RunningIn g now → now < edgeTime g

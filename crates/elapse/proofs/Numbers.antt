@@ -92,15 +92,6 @@ clock-parts s y c low high =
     let remainder : clockAtExact x .remainder ≡ (y - c * second) % 2 ^ 24 = omega arith in
     λ i. record { seconds = seconds i; nanoseconds = nanoseconds i; fraction = fraction i; remainder = remainder i }
 
--- a carry of one where a second is full
-pub carry-fits : (y c : ℕ) → c ≡ cond (leb second y) 1 0 → y < 2 * second
-    → (c ≤ 1) × (c * second ≤ y) × (y < (c + 1) * second)
-carry-fits y c is low =
-    rw is
-    (split (λ (c : ℕ). (c ≤ 1) × (c * second ≤ y) × (y < (c + 1) * second)) (leb second y)
-    (λ e. let l = leb-true second y e in (omega arith, omega arith, omega arith))
-    (λ e. let l = leb-false second y e in (omega arith, omega arith, omega arith)))
-
 -- the first time shown above the pending instant, by its parts
 module _ (g : Generator) (k : Clock) (h : RunningIn g (shown k)) where
   some-parts : 0 < g .denominator

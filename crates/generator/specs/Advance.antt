@@ -2,7 +2,8 @@
 -- generators".
 use mathlib.Core.Path.{_≡_}
 use mathlib.Core.Bool.{true, false}
-use Prim.Native.Nat.{ℕ, _+_, _<_, _≤_, _^_}
+use Prim.Native.Nat.{ℕ, _+_, _*_, _<_, _≤_, _^_}
+use lib.Dec.{leb}
 use Rattle.model.specs.declared.Clock.{Clock}
 use Rattle.model.specs.declared.Generator.{Generator}
 use Rattle.model.specs.Clock.{shown}
@@ -36,6 +37,10 @@ pub record Due (g : Generator) (k : Clock) (step : ℕ) : Type 0 where
   pub running : Generator.isRunning g ≡ true
   pub before : Generator.isBefore g (shown k + step) ≡ true
   pub low : step ≤ 65536
+
+-- the first eighth from the top that does not start after the instant, by 8 × (E - A) and S in one unit
+abbrev pub topmost : ℕ → ℕ → ℕ
+topmost ahead length = Generator.firstOf (λ p. leb (p * length) ahead) Generator.fromTheTop
 
 -- a generator, and a tick of a step that takes the clock from k to next
 pub record Ticking (g : Generator) (k next : Clock) (step : ℕ) : Type 0 where

@@ -1,18 +1,19 @@
 // An event generator in a tick: whether its pending instant is due, the eighth that it falls in, and the generator
 // after the edge. Instants keep their remainder over the denominator, so nothing is rounded. Each function returns a
-// definition of the model's specs/Generator.antt. Document 01, "Stamps and generators".
+// definition of the model's specs/Generator.antt or of specs/Advance.antt. Document 01, "Stamps and generators";
+// document 02, A.3.
 ghost use mathlib.Core.Path.{_≡_};
-ghost use Prim.Native.Nat.{_<_};
+ghost use Prim.Native.Nat.{_<_, _^_};
 ghost use Rattle.model.specs.Clock.{shown};
 ghost use Rattle.model.specs.Edges.{edgeCode};
 ghost use Rattle.model.specs.Generator.{idleGenerator, isBefore, eighthOf, nextInstant, following};
-ghost use Rattle.generator.specs.Advance.{Comparable, Running, Due, Ticking, stayOf, advanceOf};
+ghost use Rattle.generator.specs.Advance.{Comparable, Running, Due, Ticking, topmost, stayOf, advanceOf};
 use model::Clock;
 use model::Generator;
 use model::Instant;
 use model::NS_PER_SECOND;
 use model::SECONDS_LIMIT;
-use tests::either;
+use tests::pick;
 
 // What a tick makes of a generator: the code of its edge or 0, the generator after it, and whether EC and SC are
 // set.
@@ -56,16 +57,32 @@ pub fn is_before(g: Generator, k: Clock) -> bool
     g.pending.remainder * 256 < k.fraction * g.denominator
 }
 
-// floor(8 × (E - A) / S), with E - A in 1/(256 D) ns: it is below the step, so it is small.
+// The eighth, by 8 × (E - A) ("ahead") and S ("length") in one unit: it is tested at 7, then 6, and so on, and the
+// first whose start, p × S / 8 after A, is not after E is taken. Eighth 0 starts at A, so the search ends. Document 02,
+// A.3.
+fn from_the_top(ahead: u64, length: u64) -> u64
+    requires { ⌜ length < 2 ^ 48 ⌝ }
+    ensures { λ r. ⌜ r ≡ topmost ahead length ⌝ }
+{
+    let mut p: u64 = 7;
+    while ahead < p * length {
+        p -= 1;
+    }
+    p
+}
+
+// The eighth of the pending instant, with E - A and S in 1/(256 D) ns. E - A is below the step, so it is small, and E
+// is in the second shown or in the next.
 fn eighth(g: Generator, k: Clock, step: u64) -> u64
     requires { ⌜ Due g k step ⌝ }
     ensures { λ r. ⌜ r ≡ eighthOf g (shown k) step ⌝ }
 {
-    let whole = (g.pending.seconds - k.seconds) * NS_PER_SECOND + g.pending.nanoseconds
-        - k.nanoseconds;
+    let length = step * g.denominator;
+    let later = pick(g.pending.seconds == k.seconds, 0, NS_PER_SECOND);
+    let whole = later + g.pending.nanoseconds - k.nanoseconds;
     let ahead = (whole * 256 * g.denominator + g.pending.remainder * 256)
         - k.fraction * g.denominator;
-    8 * ahead / (step * g.denominator)
+    from_the_top(8 * ahead, length)
 }
 
 // The code of an edge, by its direction.
@@ -99,8 +116,11 @@ fn follow(g: Generator) -> Generator
     requires { ⌜ Running g ⌝ }
     ensures { λ r. ⌜ r ≡ following g ⌝ }
 {
+    if g.left == 1 {
+        return idle_generator();
+    }
     let next = next_instant(g);
-    if either(g.left == 1, SECONDS_LIMIT <= next.seconds) {
+    if SECONDS_LIMIT <= next.seconds {
         return idle_generator();
     }
     Generator {
@@ -135,9 +155,11 @@ pub fn advance(g: Generator, k: Clock, next: Clock, step: u64) -> Advanced
         return stay(g);
     }
     if is_before(g, next) {
+        let generator = follow(g);
+        let code = edge_code(g.direction, eighth(g, k, step));
         Advanced {
-            code: edge_code(g.direction, eighth(g, k, step)),
-            generator: follow(g),
+            code: code,
+            generator: generator,
             event: g.mark == 1,
             sequence: g.left == 1,
         }

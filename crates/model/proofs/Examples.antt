@@ -75,7 +75,8 @@ unfolding examples starred cells runLines timestamps timeCell amountCell countCe
     Words.aboveNanoseconds Words.wholeIn Words.fracIn Words.amountIn Words.belowFrac Words.countIn Words.timeWords
     Clock.cycleAmount Clock.stepBy Clock.remainderBy Clock.ticked Clock.spent Clock.lastCycle Clock.steeringAfter
     Fifo.timestampNs Fifo.timestampOf Fifo.captured Fifo.capturesFirst Fifo.overflows Fifo.popped Generator.nextInstant
-    Generator.isBefore Generator.isDue Generator.eighthOf Generator.placed Generator.following Generator.generated
+    Generator.isBefore Generator.isDue Generator.startsBy Generator.firstOf Generator.eighthOf Generator.placed
+    Generator.following Generator.generated
     Generator.completesEvent Generator.completesSequence Interrupts.withBit Interrupts.latch Interrupts.anyBoth
     Interrupts.interruptWord Interrupts.statusWord Interrupts.onlyBits Record.powerOn Ranges.clockOk Ranges.adjustmentOk
     Ranges.steeringOk Ranges.timestampOk Ranges.placeOk Ranges.fifoOk Ranges.generatorOk Ranges.interruptsOk

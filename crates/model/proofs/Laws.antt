@@ -27,8 +27,9 @@ pub mod Timestamps
 pub mod Cycles
 pub mod Elapse
 pub mod RunLine
--- fractions, and the lag of an edge
+-- fractions, the eighth of an edge, and its lag
 pub mod Fractions
+pub mod Eighths
 pub mod Lag
 -- the command sheet: what is written is read, and what is read is what would be written; numbers, lines, sheets
 pub mod Decimal

@@ -4,6 +4,7 @@ pub mod Demand2
 pub mod Demand3
 pub mod RunLines
 pub mod Timestamps
+pub mod EighthIsFloor
 pub mod Sheets
 pub mod Examples
 pub mod Laws

@@ -1,5 +1,6 @@
 -- Event generators. Document 01, "Stamps and generators"; sheet 000, 6.13.3.
 use Prim.Native.Nat.{ℕ, _+_, _*_, _-_, _/_, _%_, _^_}
+use mathlib.Core.List.{List, [], _∷_}
 use mathlib.Core.Bool.{Bool, _&&_, _||_, not, cond}
 use lib.Dec.{eqb, leb, ltb}
 use Rattle.model.specs.declared.Instant.{Instant}
@@ -47,9 +48,21 @@ isBefore g t = ltb (pendingTotal g * 256) (t * g .denominator)
 unfoldable pub isDue : Generator → ℕ → ℕ → Bool
 isDue g a s = isRunning g && isBefore g (a + s)
 
--- floor(8 × (E - A) / S)
+-- the start of eighth p by the time shown, A + p × S / 8, is not after E: both times 8 × 256 × D. Document 02, A.3.
+unfoldable pub startsBy : Generator → ℕ → ℕ → ℕ → Bool
+startsBy g a s p = leb ((8 * a + p * s) * g .denominator) (8 * (pendingTotal g * 256))
+
+-- the first of these numbers for which a test holds, else 0
+unfoldable pub firstOf : (ℕ → Bool) → List ℕ → ℕ
+firstOf test [] = 0
+firstOf test (p ∷ ps) = cond (test p) p (firstOf test ps)
+
+abbrev pub fromTheTop : List ℕ
+fromTheTop = 7 ∷ 6 ∷ 5 ∷ 4 ∷ 3 ∷ 2 ∷ 1 ∷ 0 ∷ []
+
+-- the eighth in which E falls: it is tested at 7, then 6, and so on. Document 02, A.3.
 unfoldable pub eighthOf : Generator → ℕ → ℕ → ℕ
-eighthOf g a s = 8 * (pendingTotal g * 256 - a * g .denominator) / (s * g .denominator)
+eighthOf g a s = firstOf (startsBy g a s) fromTheTop
 
 -- the code that a tick returns for the generator
 unfoldable pub placed : Generator → ℕ → ℕ → ℕ

@@ -19,7 +19,7 @@ pub mod Elapse
 pub mod Orders
 pub mod Ops
 -- the record's ranges (number 4), the field lists (number 6), the table of checks; the checks, then the op; a run, and
--- the timestamps in it
+-- the timestamps in it; the eighth by its old formula, for a theorem
 pub mod Ranges
 pub mod Bounds
 pub mod Fields
@@ -27,6 +27,7 @@ pub mod Checks
 pub mod Execute
 pub mod Run
 pub mod Timestamps
+pub mod FloorEighth
 -- the command sheet: text, the sheet's own checks (numbers 1 to 3) and its commands, and what its run prints
 pub mod Text
 pub mod Sheet

@@ -1,2 +1,3 @@
--- Laws of comparisons that code makes place by place.
+-- Laws of comparisons that code makes place by place, and of a carry by comparison.
 pub mod Places
+pub mod Carry

@@ -1,28 +1,37 @@
--- The code and the definition branch on the same test of the same next instant.
+-- The code asks the definition's two tests one by one: of the edges left, then of the next instant.
+use Prim.Native.Nat.{_^_}
 use borrow.Author.Needs.{needs}
+use borrow.Author.Tests.{eq-eqb, ne-eqb, le-leb, lt-leb}
 use Rattle.model.specs.Generator.{following}
 use Rattle.generator.proofs.follow.Statement.{statement}
 use Rattle.generator.proofs.follow.Tie as tie
 
 returns : tie.Need-returns
 unfolding following
-returns c =
-    let test = c .before .before in
-    simp (
-      c .idle-generator .ensures,
-      ← test .before .before .before .next-instant .ensures,
-      ← test .either .ensures,
-      c .before .if1 .taken,
-    )
+returns c = simp (c .idle-generator .ensures, eq-eqb _ 1 (c .before .if1 .taken))
 
 returns-2 : tie.Need-returns-2
 unfolding following
 returns-2 c =
-    let test = c .before .before .before in
-    simp
-    (← test .before .before .before .next-instant .ensures, ← test .either .ensures, c .before .before .if1 .left)
+    let later = c .before .before .before in
+    simp (
+      c .idle-generator2 .ensures,
+      ← later .next-instant .ensures,
+      ne-eqb _ 1 (later .before .if1 .left),
+      le-leb (2 ^ 48) _ (c .before .if2 .taken),
+    )
+
+returns-3 : tie.Need-returns-3
+unfolding following
+returns-3 c =
+    let later = c .before .before .before .before in
+    simp (
+      ← later .next-instant .ensures,
+      ne-eqb _ 1 (later .before .if1 .left),
+      lt-leb (2 ^ 48) _ (c .before .before .if2 .left),
+    )
 
 pub follow-spec : {M : Type 1} → statement M
 follow-spec =
     tie.close
-    (tie.spec (search needs) (search needs) (search needs) returns (search needs) (search needs) returns-2)
+    (tie.spec (search needs) returns (search needs) (search needs) returns-2 (search needs) (search needs) returns-3)

@@ -23,6 +23,7 @@ use Rattle.model.specs.Bookings.{codeFor, edgesIn}
 use Rattle.model.specs.Instants.{ideal, AlternateFrom, Lag, LagsFrom, eighthStart}
 use Rattle.model.proofs.Laws.Ranges.{running-in}
 use Rattle.model.proofs.Laws.Fractions.{Is, is-over, is-finer, is-plus, is-part, is-below}
+use Rattle.model.proofs.Laws.Eighths.{eighth-is-floor}
 use Rattle.model.proofs.Laws.Lag.{eighth-few, not-early, not-late}
 use Rattle.model.proofs.Laws.Generator.{next-total}
 use Rattle.model.proofs.Follow.Codes.{code-tells}
@@ -173,14 +174,17 @@ module _ {a s before left amount : ℕ} {l : Ledger} (t : TickIn a s before left
       → Generator.isBefore g (a + s) ≡ true
       → Standing start interval count
       (edges ++ edgesBy t (edgeCode (g .direction) (Generator.eighthOf g a s))) (Generator.following g) (a + s)
-  unfolding Generator.following Generator.isBefore Generator.eighthOf
+  unfolding Generator.following Generator.isBefore
   due (running r e₁ e₂ e₃ e₄ e₅) h y b =
       let reached = ltb-true (Generator.pendingTotal g * 256) ((a + s) * g .denominator) b in
       let is : Is (ideal start interval (length edges)) (Generator.pendingTotal g) (g .denominator) =
       rw (e₃, e₁) (ideal-is (w .order) (length edges))
       in
       let lagging = lag t _ _ _ is (h .ahead) reached (1 - g .direction) in
-      rw (edge-in t (g .direction) _ (h .direction) (lagging .eighth))
+      rw (
+        eighth-is-floor g a s (is .unit) (t .some) (h .ahead) reached,
+        edge-in t (g .direction) _ (h .direction) (lagging .eighth),
+      )
       (grown _ _ (omega arith) lagging (rw (← e₃, ← e₁) reached)
       (stands-after (w .s) (w .i) (w .d) count (length edges) g a h e₁ e₂ e₃ e₄ e₅ _ _ refl refl))
   due (complete r e) h y b = absurd (true≢false (sym y ∙ r))

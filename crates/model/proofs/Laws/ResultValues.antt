@@ -2,36 +2,35 @@
 -- the record, which is valid again, op 8 the record's words, and the interrupt and status words have bits below 15;
 -- a run returns its last tick's codes and its ticks, at most a million, in two words; every other value is 0. An answer
 -- is the number of a check.
-use Prim.Native.Nat.{ℕ, zero, suc, _+_, _*_, _<_, _≤_}
+use Prim.Native.Nat.{ℕ, zero, suc, _<_, _≤_}
 use mathlib.Core.Path.{_≡_}
 use mathlib.Core.Bool.{true}
 use native.Mathlib.Omega.{arith}
 use native.Mathlib.Decide.{ℕ-discrete}
 use lib.Dec.{eqb}
-use borrow.Author.Tests.{ltb-true}
 use Rattle.model.specs.declared.Engine.{Engine}
 use Rattle.model.specs.declared.Command.{Command}
 use Rattle.model.specs.declared.Outcome.{Outcome}
 use Rattle.model.specs.declared.Generator.{Generator}
 use Rattle.model.specs.Words.{noWords}
 use Rattle.model.specs.Edges.{edgeCode}
-use Rattle.model.specs.Generator.{placed, isDue, isRunning, isBefore, eighthOf, pendingTotal}
+use Rattle.model.specs.Clock.{shown}
+use Rattle.model.specs.Generator.{placed, isDue}
 use Rattle.model.specs.Tick.{tickStep, tickValues, ticks}
 use Rattle.model.specs.RunLine.{run, ran}
 use Rattle.model.specs.Orders
 use Rattle.model.specs.Ops.{performed}
-use Rattle.model.specs.Ranges.{valid, generatorOk}
+use Rattle.model.specs.Ranges.{valid}
 use Rattle.model.specs.Bounds.{WordsIn}
 use Rattle.model.specs.Checks.{lastNumber}
 use Rattle.model.specs.Execute.{execute}
-use Rattle.model.proofs.Laws.Tests.{split, both}
-use Rattle.model.proofs.Laws.Ranges.{Valid, valid-parts, running-in, words-in}
+use Rattle.model.proofs.Laws.Tests.{split}
+use Rattle.model.proofs.Laws.Ranges.{Valid, valid-parts, words-in}
 use Rattle.model.proofs.Laws.Fields.{run-fields}
 use Rattle.model.proofs.Laws.Checks.{Accepted, by-answer, by-op}
 use Rattle.model.proofs.Laws.Interrupts.{interrupts-read, status-read}
-use Rattle.model.proofs.Laws.Lag.{eighth-few}
-use Rattle.model.proofs.Laws.Tick.{tick-step-bounds}
-use Rattle.model.proofs.Laws.RunTicks.{lastValues, ran-ticks, ticks-valid}
+use Rattle.model.proofs.Laws.Eighths.{eighth-below-8}
+use Rattle.model.proofs.Laws.RunTicks.{lastValues, ran-ticks}
 use Rattle.model.proofs.Laws.Valid.{performed-valid}
 use Rattle.model.proofs.Laws.Outcomes.{answer-bounds}
 
@@ -39,32 +38,21 @@ code-low : (direction eighth : ℕ) → eighth < 8 → edgeCode direction eighth
 code-low direction eighth h =
     split (λ (x : ℕ). x ≤ 16) (eqb direction 0) (λ z. omega arith) (λ z. omega arith)
 
--- the pending instant of a due generator lies in one of the step's eighths
-due-eighth : (g : Generator) (a s : ℕ) → 0 < s → generatorOk g a ≡ true → isDue g a s ≡ true → eighthOf g a s < 8
-unfolding isDue isBefore eighthOf
-due-eighth g a s some ok due =
-    let d = both (isRunning g) (isBefore g (a + s)) due in
-    let r = running-in g a ok (d .0) in
-    let some-parts : 0 < g .denominator = omega (arith, r .remainder) in
-    eighth-few (pendingTotal g) a s 0 0 (s * 16777216) (g .denominator) some-parts some (omega arith) (r .ahead)
-    (ltb-true _ _ (d .1))
-
-placed-low : (g : Generator) (a s : ℕ) → 0 < s → generatorOk g a ≡ true → placed g a s ≤ 16
+placed-low : (g : Generator) (a s : ℕ) → placed g a s ≤ 16
 unfolding placed
-placed-low g a s some ok =
+placed-low g a s =
     split (λ (x : ℕ). x ≤ 16) (isDue g a s)
-    (λ due. code-low (g .direction) _ (due-eighth g a s some ok due))
+    (λ due. code-low (g .direction) _ (eighth-below-8 g a s))
     (λ z. omega arith)
 
 pub no-words-in : WordsIn noWords
 no-words-in = omega arith
 
-tick-values-in : (e : Engine) → Valid e → WordsIn (tickValues e)
+tick-values-in : (e : Engine) → WordsIn (tickValues e)
 unfolding tickValues
-tick-values-in e v =
-    let some : 0 < tickStep e = omega (arith, tick-step-bounds e v .0) in
-    let p = placed-low (e .generator1) _ _ some (v .generator1) in
-    let q = placed-low (e .generator2) _ _ some (v .generator2) in
+tick-values-in e =
+    let p = placed-low (e .generator1) (shown (e .clock)) (tickStep e) in
+    let q = placed-low (e .generator2) (shown (e .clock)) (tickStep e) in
     omega arith
 
 -- the values of a read are the words of the record after it
@@ -81,15 +69,15 @@ unfolding Orders.interruptsRead
 interrupt-values-in e h = let low = interrupts-read e h .others in omega arith
 
 -- the values of a run: codes of its last tick, and at most a million ticks in two words
-last-values-in : (e : Engine) (m : ℕ) → ((k : ℕ) → k ≤ m → Valid (ticks k e)) → WordsIn (lastValues m e)
-last-values-in e zero v = no-words-in
-last-values-in e (suc m) v = tick-values-in (ticks m e) (v m (omega arith))
+last-values-in : (e : Engine) (m : ℕ) → WordsIn (lastValues m e)
+last-values-in e zero = no-words-in
+last-values-in e (suc m) = tick-values-in (ticks m e)
 
-ran-values-in : (e : Engine) (a : ℕ) → Valid e → a ≤ 1000000 → WordsIn (ran e a .values)
+ran-values-in : (e : Engine) (a : ℕ) → a ≤ 1000000 → WordsIn (ran e a .values)
 unfolding ran
-ran-values-in e a v few =
+ran-values-in e a few =
     let r = ran-ticks a e in
-    let w : WordsIn (run a e .values) = rw (r .values) (last-values-in e (run a e .done) (ticks-valid a e v)) in
+    let w : WordsIn (run a e .values) = rw (r .values) (last-values-in e (run a e .done)) in
     let most = r .few in
     omega arith
 
@@ -98,7 +86,7 @@ performed-values-in e c k =
     let v = valid-parts e (k .valid) in
     by-op (λ (x : Outcome). Valid (x .engine) → WordsIn (x .values)) e c (k .op)
     (record {
-      tick = λ o w. tick-values-in e v;
+      tick = λ o w. tick-values-in e;
       load = λ o w. no-words-in;
       command = λ o w. commanded-values-in e (c .a) (c .b) w;
       arm = λ o w. no-words-in;
@@ -107,7 +95,7 @@ performed-values-in e c k =
       mask = λ o w. no-words-in;
       status = λ o w. let low = status-read e .above in omega arith;
       show = λ o w. words-in (e .words) (v .words);
-      run = λ o w. ran-values-in e (c .a) v (run-fields c (k .fields) o .few);
+      run = λ o w. ran-values-in e (c .a) (run-fields c (k .fields) o .few);
     })
     (performed-valid e c k)
 

@@ -1,12 +1,15 @@
 -- Laws of tests and of ordered checks. They hold by induction on the list, or on the bound, one test at a time.
 use Prim.Native.Nat.{ℕ, zero, suc, _+_, _<_, _≤_}
 use mathlib.Core.Path.{_≡_, refl, ap}
+use mathlib.Core.Logic.{_↔_}
 use mathlib.Core.List.{List, [], _∷_}
 use mathlib.Core.Bool.{Bool, true, false, _&&_, _||_, not, cond, and-eq-true-iff}
 use lib.ListN.{length}
 use native.Mathlib.Nat.{add-zero, add-suc}
-use native.Mathlib.Decide.{ℕ-discrete}
+use native.Mathlib.Decide.{ℕ-discrete, decLe}
 use native.Mathlib.Omega.{arith}
+use lib.Dec.{leb}
+use borrow.Author.Tests.{le-leb, lt-leb}
 use Rattle.model.specs.Tests.{every, everyBelow, countBelow, Check, holdsAt, firstFailed}
 
 -- both arms of a test, each with what the test said
@@ -33,6 +36,14 @@ or-right false b h = h
 pub neither : (a b : Bool) → (a || b) ≡ false → (a ≡ false) × (b ≡ false)
 neither true b h = (h, cc)
 neither false b h = (refl, h)
+
+-- two tests of order that say the same
+pub leb-same : (a b c d : ℕ) → (a ≤ b) ↔ (c ≤ d) → leb a b ≡ leb c d
+leb-same a b c d h =
+    elim (decLe a b) [
+      | yes l ↦ rw (le-leb a b l, le-leb c d (h .0 l))
+      | no l ↦ let n : c ≤ d → ⊥ = λ m. l (h .1 m) in rw (lt-leb a b (omega arith), lt-leb c d (omega arith))
+    ]
 
 -- what a check asks, where it applies
 pub asked : (applies test : Bool) → (not applies || test) ≡ true → applies ≡ true → test ≡ true
