@@ -20,22 +20,23 @@ extern "C" {
 
 /* The version of the record's layout, as lendaru_record_version() returns it. A later version may add parts: keep it
  * beside a record that is saved, and load no record of another version. */
-#define LENDARU_RECORD_VERSION 1
+#define LENDARU_RECORD_VERSION 2
 
 /* The time shown, and the hidden remainder in 2^-32 ns (below 2^24); the fraction is in 1/256 ns. */
 typedef struct {
     uint64_t seconds, nanoseconds, fraction, remainder;
 } lendaru_clock;
 
-/* PER_ADJ in 2^-32 ns and the cycles left of it; both 0 where none runs. */
+/* PER_ADJ in 2^-32 ns and the cycles left of it; both 0 where none runs, or where none waits. */
 typedef struct {
     uint64_t amount, cycles;
 } lendaru_adjustment;
 
-/* PERIOD in 2^-32 ns, and the running adjustment. */
+/* PERIOD in 2^-32 ns, the running adjustment, and the one that waits: it becomes the running one in the cycle that ends
+ * the other, and steers from the next cycle on. */
 typedef struct {
     uint64_t period;
-    lendaru_adjustment adjustment;
+    lendaru_adjustment adjustment, waiting;
 } lendaru_steering;
 
 /* The timestamp of an input edge; rising is 1 or 0. */
@@ -98,20 +99,23 @@ typedef struct {
 #else
 #define LENDARU_ASSERT(fact) _Static_assert(fact, #fact)
 #endif
-LENDARU_ASSERT(sizeof(lendaru_engine) == 856);
+LENDARU_ASSERT(sizeof(lendaru_engine) == 872);
 LENDARU_ASSERT(sizeof(lendaru_command) == 72);
 LENDARU_ASSERT(sizeof(lendaru_reply) == 48);
+LENDARU_ASSERT(sizeof(lendaru_steering) == 40);
 LENDARU_ASSERT(sizeof(lendaru_fifo) == 200);
 LENDARU_ASSERT(sizeof(lendaru_generator) == 72);
 LENDARU_ASSERT(offsetof(lendaru_engine, clock) == 0);
 LENDARU_ASSERT(offsetof(lendaru_engine, steering) == 32);
-LENDARU_ASSERT(offsetof(lendaru_engine, fifo1) == 56);
-LENDARU_ASSERT(offsetof(lendaru_engine, fifo2) == 256);
-LENDARU_ASSERT(offsetof(lendaru_engine, fifo3) == 456);
-LENDARU_ASSERT(offsetof(lendaru_engine, generator1) == 656);
-LENDARU_ASSERT(offsetof(lendaru_engine, generator2) == 728);
-LENDARU_ASSERT(offsetof(lendaru_engine, interrupts) == 800);
-LENDARU_ASSERT(offsetof(lendaru_engine, words) == 816);
+LENDARU_ASSERT(offsetof(lendaru_engine, fifo1) == 72);
+LENDARU_ASSERT(offsetof(lendaru_engine, fifo2) == 272);
+LENDARU_ASSERT(offsetof(lendaru_engine, fifo3) == 472);
+LENDARU_ASSERT(offsetof(lendaru_engine, generator1) == 672);
+LENDARU_ASSERT(offsetof(lendaru_engine, generator2) == 744);
+LENDARU_ASSERT(offsetof(lendaru_engine, interrupts) == 816);
+LENDARU_ASSERT(offsetof(lendaru_engine, words) == 832);
+LENDARU_ASSERT(offsetof(lendaru_steering, adjustment) == 8);
+LENDARU_ASSERT(offsetof(lendaru_steering, waiting) == 24);
 LENDARU_ASSERT(offsetof(lendaru_fifo, count) == 192);
 LENDARU_ASSERT(offsetof(lendaru_generator, left) == 48);
 #undef LENDARU_ASSERT
@@ -133,10 +137,10 @@ lendaru_engine lendaru_power_on(void);
  *
  * Every call checks the record first: a malformed one is answered with 4 and left as it was. So a record that was saved
  * and loaded again may be lent as it is. What number 4 sees is a field out of its range, an idle part or an unused
- * place that is not zero, and a pending instant before the time shown. What it cannot see is a record that is well
- * formed and not yours: an older save, another engine's, or one whose flipped bit left a field in range. Keep a sum of
- * your own beside a record in flash; and promises about lists of commands hold for a record that comes from power-on by
- * these calls alone. */
+ * place that is not zero, a pending instant before the time shown, and an adjustment that waits while none runs. What
+ * it cannot see is a record that is well formed and not yours: an older save, another engine's, or one whose flipped
+ * bit left a field in range. Keep a sum of your own beside a record in flash; and promises about lists of commands hold
+ * for a record that comes from power-on by these calls alone. */
 lendaru_reply lendaru_execute(lendaru_engine *engine, lendaru_command command);
 
 /* A run on the lent record (in liblendaru_run.a): up to `a` ticks without inputs in one call, what lendaru_execute does

@@ -12,16 +12,18 @@ static int numbers(void)
     return ok;
 }
 
-/* At 5 s 7 ns: adjust by 9 ns and FRAC 0x40800020 for 3 cycles, mask TS1_NE, generator 2 from 5 s 10 ns at
- * 256 + 2/7 ns, 5 edges, no mark; then a tick with input 2 falling at eighth 0 and input 3 rising at eighth 4.
- * The step is 9.25 ns, so generator 2's edge rises at eighth 2 (24 / 9.25), and input 3's comes at 11.625 ns,
- * of which 12 is the nearest. */
+/* At 5 s 7 ns: adjust by 9 ns and FRAC 0x40800020 for 3 cycles, and behind it, waiting, by 7 ns and FRAC 0x40200080
+ * for 4; mask TS1_NE, generator 2 from 5 s 10 ns at 256 + 2/7 ns, 5 edges, no mark; then a tick with input 2 falling at
+ * eighth 0 and input 3 rising at eighth 4. The step is 9.25 ns, so generator 2's edge rises at eighth 2 (24 / 9.25),
+ * and input 3's comes at 11.625 ns, of which 12 is the nearest. */
 static int advanced(lendaru_engine *e)
 {
     static const lendaru_command commands[] = {
         {1, 5, 0, 0, 7, 0, 0, 0, 0},
         {2, 0, 8, 0, 0, 0, 0, 0, 0},
         {1, 1, 3, 0x2000, 0x8000, 0x0940, 0, 0, 0},
+        {2, 2, 8, 0, 0, 0, 0, 0, 0},
+        {1, 1, 4, 0x8000, 0x2000, 0x0740, 0, 0, 0},
         {2, 2, 8, 0, 0, 0, 0, 0, 0},
         {6, 0x100, 0, 0, 0, 0, 0, 0, 0},
         {3, 2, 5, 10, 256, 2, 7, 5, 0},
@@ -46,11 +48,13 @@ static int clock_and_words(const lendaru_engine *e)
     ok &= same("PERIOD", 8ull << 32, e->steering.period);
     ok &= same("PER_ADJ", 0x940800020ull, e->steering.adjustment.amount);
     ok &= same("cycles", 2, e->steering.adjustment.cycles);
+    ok &= same("waiting PER_ADJ", 0x740200080ull, e->steering.waiting.amount);
+    ok &= same("waiting cycles", 4, e->steering.waiting.cycles);
     /* TS2_NE and TS3_NE */
     ok &= same("latched", 1 << 10 | 1 << 12, e->interrupts.latched);
     ok &= same("enabled", 0x100, e->interrupts.enabled);
-    ok &= same("word 1", 1, e->words.w1) & same("word 2", 3, e->words.w2) & same("word 3", 0x2000, e->words.w3);
-    return ok & same("word 4", 0x8000, e->words.w4) & same("word 5", 0x0940, e->words.w5);
+    ok &= same("word 1", 1, e->words.w1) & same("word 2", 4, e->words.w2) & same("word 3", 0x8000, e->words.w3);
+    return ok & same("word 4", 0x2000, e->words.w4) & same("word 5", 0x0740, e->words.w5);
 }
 
 static int holds_one(const lendaru_fifo *f, unsigned long long nanoseconds, unsigned long long rising)
@@ -76,29 +80,53 @@ static int replied(const char *what, lendaru_reply r, unsigned long long answer,
     return ok & same("ticks, high", high, r.values.w4) & same("value 5", 0, r.values.w5);
 }
 
+static int steered_by(const char *what, lendaru_adjustment a, unsigned long long amount, unsigned long long cycles)
+{
+    return same(what, amount, a.amount) & same("cycles of it", cycles, a.cycles);
+}
+
 /* From the tick above the exact time is 5 s 16 ns and 0x40800020 / 2^32, about 0.252 ns. Two more cycles of 9.252 ns
- * and 29 of 8 ns bring it to 266.756 ns, past generator 2's instant of 266 + 2/7 ns; the last of them starts at
- * 258.756 ns, so the edge falls at eighth 7. With the generator stopped, 70,000 cycles are 65,536 + 4,464. */
+ * end the first adjustment at 34 ns and 3 x 0x40800020 = 0xC1800060, and the other, of 7 ns and 0x40200080, is taken
+ * up. Its 4 cycles, 28 ns and 4 x 0x40200080 = 2^32 + 0x800200, end at 63 ns and 0xC2000260, about 63.758 ns. 26 cycles
+ * of 8 ns bring it to 271.758 ns, past generator 2's instant of 266 + 2/7 ns; the last of them starts at 263.758 ns, so
+ * the edge falls at eighth 2. TAC is latched at each of the two ends. */
+static int runs_over_adjustments(lendaru_engine *e)
+{
+    static const lendaru_command interrupts = {5, 0, 0, 0, 0, 0, 0, 0, 0};
+    int ok = replied("a run to the end of the first", lendaru_run(e, 2), 0, 0, 2, 0);
+    ok &= same("nanoseconds", 34, e->clock.nanoseconds);
+    ok &= same("fraction", 0xC1, e->clock.fraction) & same("remainder", 0x800060, e->clock.remainder);
+    ok &= steered_by("taken up", e->steering.adjustment, 0x740200080ull, 4);
+    ok &= steered_by("none waits", e->steering.waiting, 0, 0);
+    /* TS2_NE, TS3_NE and TAC */
+    ok &= same("interrupts", 1 << 10 | 1 << 12 | 1, lendaru_execute(e, interrupts).values.w1);
+    ok &= replied("a run to an edge", lendaru_run(e, 1000000), 0, 1 + 2, 4 + 26, 0);
+    ok &= same("seconds after a run", 5, e->clock.seconds) & same("nanoseconds", 271, e->clock.nanoseconds);
+    ok &= same("fraction", 0xC2, e->clock.fraction) & same("remainder", 0x260, e->clock.remainder);
+    ok &= steered_by("none runs", e->steering.adjustment, 0, 0);
+    return ok & same("TAC alone", 1, e->interrupts.latched) & same("left", 3, e->generator2.left);
+}
+
+/* With the generator stopped, 70,000 cycles of 8 ns are 65,536 + 4,464. */
 static int runs(lendaru_engine *e)
 {
     static const lendaru_command stop = {4, 2, 0, 0, 0, 0, 0, 0, 0};
     int ok = replied("no ticks", lendaru_run(e, 0), 6, 0, 0, 0);
     ok &= replied("too many ticks", lendaru_run(e, 1000001), 6, 0, 0, 0);
     ok &= same("nanoseconds after refusals", 16, e->clock.nanoseconds);
-    ok &= replied("a run to an edge", lendaru_run(e, 1000000), 0, 1 + 7, 31, 0);
-    ok &= same("seconds after a run", 5, e->clock.seconds) & same("nanoseconds", 266, e->clock.nanoseconds);
-    ok &= same("fraction", 0xC1, e->clock.fraction) & same("remainder", 0x800060, e->clock.remainder);
-    ok &= same("cycles", 0, e->steering.adjustment.cycles) & same("PER_ADJ", 0, e->steering.adjustment.amount);
-    /* TS2_NE, TS3_NE and TAC */
-    ok &= same("latched", 1 << 10 | 1 << 12 | 1, e->interrupts.latched) & same("left", 3, e->generator2.left);
+    ok &= runs_over_adjustments(e);
     ok &= same("stop", 0, lendaru_execute(e, stop).answer);
     ok &= replied("a run by count", lendaru_run(e, 70000), 0, 0, 4464, 1);
-    ok &= same("nanoseconds", 560266, e->clock.nanoseconds);
+    ok &= same("nanoseconds", 560271, e->clock.nanoseconds);
     e->clock.seconds = 0xFFFFFFFFFFFFull;
     e->clock.nanoseconds = 999999992;
     ok &= replied("a run at the end of time", lendaru_run(e, 1), 15, 0, 0, 0);
     e->clock.nanoseconds = 1000000000;
-    return ok & replied("a run on a malformed record", lendaru_run(e, 1), 4, 0, 0, 0);
+    ok &= replied("a run on a malformed record", lendaru_run(e, 1), 4, 0, 0, 0);
+    e->clock.nanoseconds = 0;
+    e->steering.waiting.amount = 8ull << 32;
+    e->steering.waiting.cycles = 1;
+    return ok & replied("a run where one waits and none runs", lendaru_run(e, 1), 4, 0, 0, 0);
 }
 
 int main(void)

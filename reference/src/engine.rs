@@ -44,6 +44,8 @@ pub struct Engine {
     pub(crate) exact: u128,
     pub(crate) period: u128,
     pub(crate) adjustment: Option<Adjustment>,
+    /// the one whose turn comes when that has ended
+    pub(crate) waiting: Option<Adjustment>,
     pub(crate) stampers: [VecDeque<Stamp>; 3],
     pub(crate) generators: [Option<Generator>; 2],
     pub(crate) latched: u64,
@@ -90,6 +92,7 @@ impl Engine {
             exact: 0,
             period: 8 << 32,
             adjustment: None,
+            waiting: None,
             stampers: Default::default(),
             generators: [None, None],
             latched: 0,
@@ -106,6 +109,11 @@ impl Engine {
     /// What the time shown drops, in 2^-32 ns.
     pub fn remainder(&self) -> u128 {
         self.exact & 0xFF_FFFF
+    }
+
+    /// How many adjustments there are, the running and the waiting one.
+    pub fn adjustments(&self) -> usize {
+        [self.adjustment, self.waiting].iter().flatten().count()
     }
 
     fn amount(&self) -> u128 {
@@ -164,7 +172,7 @@ impl Engine {
         if let Some(a) = &mut self.adjustment {
             a.cycles -= 1;
             if a.cycles == 0 {
-                self.adjustment = None;
+                self.adjustment = self.waiting.take();
                 self.latched |= TAC;
             }
         }
@@ -241,14 +249,17 @@ impl Engine {
             1 | 2 if w5 >> 8 == 0 => return refuse(9),
             1 if w3 % 256 != 0 => return refuse(9),
             2 if count == 0 => return refuse(10),
-            2 if self.adjustment.is_some() => return refuse(11),
+            2 if self.waiting.is_some() => return refuse(11),
             0 => {
                 let seconds = u128::from(w1) + (u128::from(w2) << 16) + (u128::from(w3) << 32);
                 self.exact = (seconds * NS + ns) << 32;
                 self.generators = [None, None];
             }
             1 => self.period = amount,
-            2 => self.adjustment = Some(Adjustment { amount, cycles: count }),
+            2 => {
+                let place = if self.adjustment.is_none() { &mut self.adjustment } else { &mut self.waiting };
+                *place = Some(Adjustment { amount, cycles: count });
+            }
             _ => {}
         }
         match read {

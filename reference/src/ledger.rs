@@ -35,6 +35,8 @@ pub struct Ledger {
     period: u128,
     per_adj: u128,
     owed: u64,
+    /// what an adjust write ordered while cycles were owed: an amount and its cycles, none where these are 0
+    waiting: (u128, u64),
     orders: [Option<Order>; 2],
 }
 
@@ -46,7 +48,15 @@ impl Default for Ledger {
 
 impl Ledger {
     pub fn new() -> Self {
-        Ledger { words: [0; 5], time: 0, period: 8 << 32, per_adj: 0, owed: 0, orders: [None, None] }
+        Ledger {
+            words: [0; 5],
+            time: 0,
+            period: 8 << 32,
+            per_adj: 0,
+            owed: 0,
+            waiting: (0, 0),
+            orders: [None, None],
+        }
     }
 
     /// One command, and what came back.
@@ -85,8 +95,13 @@ impl Ledger {
             }
             1 => self.period = amount,
             2 => {
-                self.per_adj = amount;
-                self.owed = ((w3 & 0xFF) << 16 | w2) as u64;
+                let count = ((w3 & 0xFF) << 16 | w2) as u64;
+                if self.owed == 0 {
+                    (self.per_adj, self.owed) = (amount, count);
+                } else {
+                    assert_eq!(self.waiting.1, 0, "no adjust write is accepted while another waits");
+                    self.waiting = (amount, count);
+                }
             }
             _ => {}
         }
@@ -101,10 +116,22 @@ impl Ledger {
         }
     }
 
-    /// What is ordered for the next so many ticks: an amount and how many get it, then another and the rest.
-    pub fn next(&self, ticks: u64) -> [(u128, u64); 2] {
-        let adjusted = ticks.min(self.owed);
-        [(self.per_adj, adjusted), (self.period, ticks - adjusted)]
+    /// What is ordered for the next so many ticks, in turn: amounts, and how many ticks get each.
+    pub fn next(&self, ticks: u64) -> [(u128, u64); 3] {
+        let (waiting, count) = self.waiting;
+        let first = ticks.min(self.owed);
+        let second = (ticks - first).min(count);
+        [(self.per_adj, first), (waiting, second), (self.period, ticks - first - second)]
+    }
+
+    /// Takes what is owed for so many ticks; what waits is owed when the last cycle of the other has been taken.
+    fn take(&mut self, ticks: u64) {
+        let [(_, first), (_, second), _] = self.next(ticks);
+        self.owed -= first;
+        if self.owed == 0 && self.waiting.1 > 0 {
+            (self.per_adj, self.owed) = std::mem::take(&mut self.waiting);
+            self.owed -= second;
+        }
     }
 
     /// The exact time, in 2^-32 ns.
@@ -120,7 +147,7 @@ impl Ledger {
     /// Op 0's step, with the codes that the tick returned for generators 1 and 2.
     fn tick(&mut self, v1: u64, v2: u64) {
         let amount = self.amount();
-        self.owed = self.owed.saturating_sub(1);
+        self.take(1);
         for (g, code) in [v1, v2].into_iter().enumerate() {
             if code != 0 {
                 self.edge(g, code, amount);
@@ -138,7 +165,7 @@ impl Ledger {
         for (amount, ticks) in self.next(done - 1) {
             self.time += amount * u128::from(ticks);
         }
-        self.owed = self.owed.saturating_sub(done - 1);
+        self.take(done - 1);
         self.tick(v1, v2);
         let at_the_end = self.time + self.amount() >= END;
         assert!(done == most || v1 != 0 || v2 != 0 || at_the_end, "a run ends early at an edge, or before 15");

@@ -1,6 +1,11 @@
 //! Random numbers and random sheets, the same for the same seed.
 use crate::engine::{Command, Engine};
 
+/// Op 1 with these words.
+fn load([a, b, c, d, e]: [u64; 5]) -> Command {
+    Command { op: 1, f: [a, b, c, d, e, 0, 0, 0] }
+}
+
 /// splitmix64.
 pub struct Random(pub u64);
 
@@ -61,13 +66,19 @@ impl Random {
         }
     }
 
+    /// Words of an amount of some nanoseconds, with a count that ticks use up, or only runs.
+    fn steering(&mut self) -> [u64; 5] {
+        let most = if self.chance(2) { 65_535 } else { self.one_of(&[3, 30, 30, 400, 2000]) };
+        let ns = self.one_of(&[40, 40, 255]);
+        let (fine, coarse) = (self.below(65536), (1 + self.below(ns)) << 8 | self.below(256));
+        [0, 1 + self.below(most), self.below(256) << 8, fine, coarse]
+    }
+
     fn words(&mut self) -> [u64; 5] {
         let mut w = [0; 5].map(|_| self.below(65536));
         match self.below(6) {
-            // an amount of some nanoseconds, with a count that ticks use up, or only runs
             0 | 1 => {
-                let (most, ns) = (self.one_of(&[30, 30, 2000, 65_535]), self.one_of(&[40, 40, 255]));
-                w = [0, 1 + self.below(most), self.below(256) << 8, w[3], (1 + self.below(ns)) << 8 | w[4] & 255];
+                w = self.steering();
                 if self.chance(5) {
                     w[2] |= self.below(20);
                 }
@@ -144,10 +155,16 @@ impl Random {
         c
     }
 
-    /// A command at this time shown: a generator is often armed for an instant about it, or within a run from it.
-    pub fn command_at(&mut self, seconds: u64, nanoseconds: u64) -> Command {
+    /// A command for this engine: a generator is often armed for an instant about the time shown, or within a run from
+    /// it; and for an adjust write whose count would outlast most lists other words are loaded, nearly always.
+    fn command_at(&mut self, e: &Engine) -> Command {
         let mut c = self.command();
+        if c[..2] == [2, 2] && e.words[2] % 256 != 0 && self.chance(95) {
+            return load(self.steering());
+        }
         if c[0] == 3 && self.chance(80) {
+            let shown = e.shown() >> 8;
+            let (seconds, nanoseconds) = ((shown / 1_000_000_000) as u64, (shown % 1_000_000_000) as u64);
             let ahead = self.one_of(&[3, 700, 700, 700, 20_000, 5_000_000]);
             let start = (nanoseconds + self.below(ahead)).saturating_sub(u64::from(ahead == 3));
             (c[2], c[3]) = (seconds + start / 1_000_000_000, start % 1_000_000_000);
@@ -163,13 +180,33 @@ impl Random {
         Command { op, f }
     }
 
-    /// How often a command comes in a row: ticks sometimes many times, and runs some, from edge to edge.
-    pub fn times(&mut self, c: &Command, many: u64) -> u64 {
-        match c.op {
+    /// What comes next for this engine: a command, ticks sometimes many times in a row and runs some, from edge to
+    /// edge; or adjust writes in quick succession.
+    pub fn commands_at(&mut self, e: &Engine, many: u64) -> Vec<Command> {
+        if self.chance(3) {
+            return self.adjustments();
+        }
+        let c = self.command_at(e);
+        let times = match c.op {
             0 => self.one_of(&[1, 1, 1, many]),
             9 if c.f[0] <= 10_000 => self.one_of(&[1, 1, 5]),
             _ => 1,
+        };
+        vec![c; times as usize]
+    }
+
+    /// Two or three adjust writes, and now and then another command behind one.
+    fn adjustments(&mut self) -> Vec<Command> {
+        let mut all = Vec::new();
+        for _ in 0..2 + self.below(2) {
+            all.push(load(self.steering()));
+            all.push(Command { op: 2, f: [2, self.one_of(&[0, 8, 8, 8]), 0, 0, 0, 0, 0, 0] });
+            if self.chance(30) {
+                let [op, f @ ..] = self.command();
+                all.push(Command { op, f });
+            }
         }
+        all
     }
 
     /// A sheet: some are damaged, some too long, some no sheet at all.
@@ -181,10 +218,8 @@ impl Random {
         let most = self.one_of(&[0, 1, 3, 30, 300, 3000]);
         let mut engine = Engine::new();
         for _ in 0..self.below(most + 1) {
-            let shown = engine.shown() >> 8;
-            let c = self.command_at((shown / 1_000_000_000) as u64, (shown % 1_000_000_000) as u64);
-            let line = c.f.iter().fold(c.op.to_string(), |line, n| format!("{line},{n}")) + "\n";
-            for _ in 0..self.times(&c, 40) {
+            for c in self.commands_at(&engine, 40) {
+                let line = c.f.iter().fold(c.op.to_string(), |line, n| format!("{line},{n}")) + "\n";
                 if text.len() + line.len() <= 65536 {
                     text.extend_from_slice(line.as_bytes());
                     engine.execute(&c);

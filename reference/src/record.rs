@@ -8,7 +8,10 @@ const NS: u64 = 1_000_000_000;
 const LAST: u64 = (1 << 48) - 1;
 
 /// How many numbers a record has.
-pub const NUMBERS: usize = 107;
+pub const NUMBERS: usize = 109;
+
+/// How many conditions number 4 has.
+pub const CONDITIONS: usize = 13;
 
 #[repr(C)]
 #[derive(Clone, Copy, Debug, PartialEq, Eq)]
@@ -31,6 +34,7 @@ pub struct Adjustment {
 pub struct Steering {
     pub period: u64,
     pub adjustment: Adjustment,
+    pub waiting: Adjustment,
 }
 
 #[repr(C)]
@@ -87,6 +91,20 @@ pub struct Record {
 }
 
 const _: () = assert!(std::mem::size_of::<Record>() == 8 * NUMBERS);
+
+impl Adjustment {
+    fn of(a: Option<engine::Adjustment>) -> Adjustment {
+        a.map(|a| Adjustment { amount: a.amount as u64, cycles: a.cycles }).unwrap_or_default()
+    }
+
+    fn begun(&self) -> Option<engine::Adjustment> {
+        self.is_used().then(|| engine::Adjustment { amount: self.amount.into(), cycles: self.cycles })
+    }
+
+    fn is_used(&self) -> bool {
+        self.cycles != 0
+    }
+}
 
 impl Fifo {
     /// The stored timestamps and the unused places; with a count over 8 all are stored.
@@ -159,12 +177,13 @@ impl Generator {
 }
 
 impl Record {
-    /// Number 4, its conditions one by one in the paper's order.
-    pub fn faults(&self) -> [bool; 12] {
-        let Record { clock, steering: Steering { period, adjustment }, interrupts, .. } = self;
+    /// Number 4, its conditions one by one in the paper's order, then the one that document 02 adds.
+    pub fn faults(&self) -> [bool; CONDITIONS] {
+        let Record { clock, steering: Steering { period, adjustment, waiting }, interrupts, .. } = self;
         let outside = |seconds: u64, ns: u64| seconds > LAST || ns >= NS;
         let bad_amount = |x: u64| !(1 << 32..1 << 40).contains(&x);
-        let (runs, adjusts) = (|g: &Generator| g.left != 0, adjustment.cycles != 0);
+        let either = |bad: &dyn Fn(&Adjustment) -> bool| bad(adjustment) || bad(waiting);
+        let runs = |g: &Generator| g.left != 0;
         let some_runs = |bad: &dyn Fn(&Generator) -> bool| self.generators.iter().any(|g| runs(g) && bad(g));
         let stored = |t: &Timestamp| outside(t.seconds, t.nanoseconds) || t.rising > 1;
         [
@@ -174,19 +193,20 @@ impl Record {
             interrupts.latched & !0x3F37 != 0 || interrupts.enabled & !0x3F7F != 0,
             some_runs(&|g| outside(g.pending.seconds, g.pending.nanoseconds)),
             self.fifos.iter().any(|f| f.count > 8),
-            bad_amount(*period) || adjusts && bad_amount(adjustment.amount),
-            adjustment.cycles >= 1 << 24,
+            bad_amount(*period) || either(&|a| a.is_used() && bad_amount(a.amount)),
+            either(&|a| a.cycles >= 1 << 24),
             some_runs(&|g| !g.is_in_limits()),
             some_runs(&|g| g.pending.remainder >= g.denominator),
             some_runs(&|g| g.is_before(clock)),
             self.fifos.iter().any(|f| f.parts().1.iter().any(|t| *t != Timestamp::default()))
                 || self.generators.iter().any(|g| !runs(g) && *g != Generator::default())
-                || !adjusts && adjustment.amount != 0,
+                || either(&|a| !a.is_used() && a.amount != 0),
+            waiting.is_used() && !adjustment.is_used(),
         ]
     }
 
     pub fn is_valid(&self) -> bool {
-        self.faults() == [false; 12]
+        self.faults() == [false; CONDITIONS]
     }
 
     /// The record as a row of numbers.
@@ -209,12 +229,12 @@ impl Engine {
     pub fn record(&self) -> Record {
         let (seconds, nanoseconds) = split(self.shown() >> 8);
         let (fraction, remainder) = (self.shown() as u64 & 255, self.remainder() as u64);
-        let adjustment = |a: engine::Adjustment| Adjustment { amount: a.amount as u64, cycles: a.cycles };
         Record {
             clock: Clock { seconds, nanoseconds, fraction, remainder },
             steering: Steering {
                 period: self.period as u64,
-                adjustment: self.adjustment.map(adjustment).unwrap_or_default(),
+                adjustment: Adjustment::of(self.adjustment),
+                waiting: Adjustment::of(self.waiting),
             },
             fifos: std::array::from_fn(|i| Fifo::of(&self.stampers[i])),
             generators: self.generators.map(|g| g.map(|g| Generator::of(&g)).unwrap_or_default()),
@@ -226,12 +246,12 @@ impl Engine {
     /// The engine that has this valid record.
     pub fn from_record(record: &Record) -> Engine {
         let Record { clock, steering, interrupts, .. } = record;
-        let Adjustment { amount, cycles } = steering.adjustment;
         let below = u128::from(clock.fraction << 24 | clock.remainder);
         Engine {
             exact: join(clock.seconds, clock.nanoseconds) << 32 | below,
             period: steering.period.into(),
-            adjustment: (cycles != 0).then(|| engine::Adjustment { amount: amount.into(), cycles }),
+            adjustment: steering.adjustment.begun(),
+            waiting: steering.waiting.begun(),
             stampers: std::array::from_fn(|i| record.fifos[i].stamps()),
             generators: record.generators.map(|g| (g.left != 0).then(|| g.begun())),
             latched: interrupts.latched,

@@ -1,4 +1,4 @@
-//! What the run lines of a comparison did, so that one sees that they were tried.
+//! What the run lines and the waiting adjustments of a comparison did, so that one sees that they were tried.
 use crate::engine::{Command, Outcome};
 use std::fmt;
 
@@ -34,5 +34,36 @@ impl fmt::Display for Runs {
         let Runs { runs, ticks, edges: [one, two, both], short } = self;
         write!(f, "runs: {runs} of {ticks} ticks; ended by generator 1 {one}, by 2 {two}, by both {both}, ")?;
         write!(f, "by the end of time {short}")
+    }
+}
+
+#[derive(Default)]
+pub struct Waits {
+    /// adjust writes that waited, and those refused because one did
+    waited: u64,
+    refused: u64,
+    /// taken up by a tick line, by a run line, and by a run line that ended both
+    taken: [u64; 3],
+}
+
+impl Waits {
+    /// A command, its outcome, and how many adjustments there were before it and are after it.
+    pub fn told(&mut self, c: &Command, o: &Outcome, before: usize, after: usize) {
+        self.refused += u64::from(o.answer == 11);
+        match (before, after, c.op) {
+            (1, 2, _) => self.waited += 1,
+            (2, 1, 0) => self.taken[0] += 1,
+            (2, 1, _) => self.taken[1] += 1,
+            (2, 0, _) => self.taken[2] += 1,
+            _ => {}
+        }
+    }
+}
+
+impl fmt::Display for Waits {
+    fn fmt(&self, f: &mut fmt::Formatter) -> fmt::Result {
+        let Waits { waited, refused, taken: [ticks, runs, both] } = self;
+        write!(f, "adjust writes: {waited} waited, {refused} refused with 11; taken up by a tick line {ticks}, ")?;
+        write!(f, "by a run line {runs}, by one that ended both {both}")
     }
 }

@@ -39,7 +39,9 @@ pub struct Engine {
     sub: u64,
     period: u64,
     adjust: u64,
+    waiting: u64,
     cycles: u32,
+    waiting_cycles: u32,
     latched: u32,
     enabled: u32,
     words: [u32; 5],
@@ -80,7 +82,9 @@ impl Engine {
             sub: 0,
             period: 8 << 32,
             adjust: 0,
+            waiting: 0,
             cycles: 0,
+            waiting_cycles: 0,
             latched: 0,
             enabled: 0,
             words: [0; 5],
@@ -98,6 +102,8 @@ impl Engine {
     #[inline]
     pub fn is_valid(&self) -> bool {
         let amount = |x: u64| (1 << 32..1 << 40).contains(&x);
+        let unused = |x: u64, cycles: u32| x | u64::from(cycles) == 0;
+        let adjustment = |x: u64, cycles: u32| amount(x) && (1..1 << 24).contains(&cycles);
         let stamp = |s: &Stamp| s.sec <= LAST && u64::from(s.ns) < NS;
         let fifo = |f: &Fifo| {
             f.count <= 8
@@ -119,7 +125,9 @@ impl Engine {
         self.sec <= LAST
             && self.sub < SECOND
             && amount(self.period)
-            && (if self.cycles == 0 { self.adjust == 0 } else { amount(self.adjust) && self.cycles < 1 << 24 })
+            && (unused(self.adjust, self.cycles) || adjustment(self.adjust, self.cycles))
+            && (unused(self.waiting, self.waiting_cycles)
+                || self.cycles != 0 && adjustment(self.waiting, self.waiting_cycles))
             && self.latched & !0x3F37 == 0
             && self.enabled & !0x3F7F == 0
             && self.words.iter().all(|&w| w < 65536)
@@ -196,7 +204,8 @@ impl Engine {
         if self.cycles != 0 {
             self.cycles -= 1;
             if self.cycles == 0 {
-                self.adjust = 0;
+                (self.adjust, self.cycles) = (self.waiting, self.waiting_cycles);
+                (self.waiting, self.waiting_cycles) = (0, 0);
                 self.latched |= 1;
             }
         }
@@ -337,11 +346,14 @@ impl Engine {
                 if count == 0 {
                     return refuse(10);
                 }
-                if self.cycles != 0 {
+                if self.waiting_cycles != 0 {
                     return refuse(11);
                 }
-                self.adjust = amount;
-                self.cycles = count as u32;
+                if self.cycles == 0 {
+                    (self.adjust, self.cycles) = (amount, count as u32);
+                } else {
+                    (self.waiting, self.waiting_cycles) = (amount, count as u32);
+                }
             }
             _ => {}
         }

@@ -32,11 +32,6 @@ fn edges() {
     run(b"edge_timestamp_to_the_nearest.csv");
 }
 
-// Document 01's whole example.
-fn example() {
-    run(b"example_whole.csv");
-}
-
 // Value lines of another form, number 3.
 fn lines() {
     run(b"line_21_digits.csv");
@@ -113,7 +108,7 @@ fn run_lines() {
     run(b"runline_timestamps_stay.csv");
 }
 
-// The sheet as a whole: number 2, and what is just allowed.
+// The sheet as a whole: numbers 1 and 2, and what is just allowed.
 fn sheets() {
     run(b"sheet_empty.csv");
     run(b"sheet_first_line_alone.csv");
@@ -121,12 +116,22 @@ fn sheets() {
     run(b"sheet_first_line_unended.csv");
     run(b"sheet_first_line_with_carriage_return.csv");
     run(b"sheet_largest_value.csv");
-}
-
-// 65,536 bytes, and one more: number 1.
-fn sizes() {
     run(b"size_65536_bytes.csv");
     run(b"size_65537_bytes.csv");
+}
+
+// A waiting adjustment.
+fn waits() {
+    run(b"wait_at_the_end_of_time.csv");
+    run(b"wait_longest_and_largest.csv");
+    run(b"wait_one_cycle_behind_one.csv");
+    run(b"wait_over_a_PERIOD_write.csv");
+    run(b"wait_over_a_TIME_write.csv");
+    run(b"wait_remainder_carries.csv");
+    run(b"wait_runline_edges.csv");
+    run(b"wait_runline_over_both_ends.csv");
+    run(b"wait_third_when_the_first_has_ended.csv");
+    run(b"wait_two_in_succession.csv");
 }
 
 // Prints a file that has less than 4,096 bytes.
@@ -254,17 +259,39 @@ fn malformed_parts() {
     tick(b"record_with_a_pending_instant_passed", e);
 }
 
+// Number 4: the place of the waiting adjustment, with a record between that is in order.
+fn malformed_waits() {
+    let mut on = engine::power_on();
+    on.steering.waiting.amount = 34359738368;
+    tick(b"record_with_an_unused_waiting_place_not_zero", on);
+    on.steering.waiting.cycles = 1;
+    tick(b"record_with_one_waiting_while_none_runs", on);
+    on.steering.adjustment.amount = 34359738368;
+    on.steering.adjustment.cycles = 1;
+    tick(b"record_with_one_waiting_behind_another", on);
+    let mut e = on;
+    e.steering.waiting.amount = 4294967295;
+    tick(b"record_with_a_waiting_amount_below_1_ns", e);
+    e = on;
+    e.steering.waiting.amount = 1099511627776;
+    tick(b"record_with_a_waiting_amount_of_41_bits", e);
+    e = on;
+    e.steering.waiting.cycles = 16777216;
+    tick(b"record_with_waiting_cycles_of_2_to_24", e);
+}
+
 fn main() {
     edges();
-    example();
+    run(b"example_whole.csv");
     lines();
     numbers();
     runs();
     run_lines();
     sheets();
-    sizes();
+    waits();
     results_in_a_file();
     unreadable_sheet();
     malformed_numbers();
     malformed_parts();
+    malformed_waits();
 }

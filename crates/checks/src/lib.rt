@@ -95,11 +95,11 @@ fn count_ok(e: Engine, c: Command) -> bool
     implies(writes(c, 2), 1 <= words::count_in(e.words))
 }
 
-// 11: none runs.
-fn adjustment_free(e: Engine, c: Command) -> bool
+// 11: none waits.
+fn waiting_free(e: Engine, c: Command) -> bool
     ensures { λ r. ⌜ r ≡ passes e c 11 ⌝ }
 {
-    implies(writes(c, 2), e.steering.adjustment.cycles == 0)
+    implies(writes(c, 2), e.steering.waiting.cycles == 0)
 }
 
 // 13: the generator does not run.
@@ -146,7 +146,7 @@ pub fn answer(e: Engine, c: Command) -> u64
     let time = time_ok(e, c);
     let amount = amount_ok(e, c);
     let count = count_ok(e, c);
-    let unadjusted = adjustment_free(e, c);
+    let free = waiting_free(e, c);
     let proper = implies(c.op == 3, c.e < c.f);
     let stopped = generator_free(e, c);
     let ahead = start_ahead(e, c);
@@ -154,7 +154,7 @@ pub fn answer(e: Engine, c: Command) -> u64
     let at8 = first(at7, 8, time);
     let at9 = first(at8, 9, amount);
     let at10 = first(at9, 10, count);
-    let at11 = first(at10, 11, unadjusted);
+    let at11 = first(at10, 11, free);
     let at12 = first(at11, 12, proper);
     let at13 = first(at12, 13, stopped);
     let at14 = first(at13, 14, ahead);

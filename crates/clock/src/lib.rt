@@ -6,7 +6,7 @@ ghost use mathlib.Core.Bool.{true};
 ghost use Prim.Native.Nat.{_+_, _*_, _<_, _≤_, _^_};
 ghost use lib.Dec.{leb, ltb};
 ghost use Rattle.model.specs.Clock.{shown, endOfTime, cycleAmount, stepBy, ticked, clockSet};
-ghost use Rattle.model.specs.Clock.{noAdjustment, spent};
+ghost use Rattle.model.specs.Clock.{noAdjustment, steeringAfter};
 ghost use Rattle.model.specs.Ranges.{steeringOk};
 ghost use Rattle.model.specs.Bounds.{ClockIn};
 ghost use Rattle.clock.specs.Cycle.{steeredOf, Cycle};
@@ -71,16 +71,28 @@ pub fn no_adjustment() -> Adjustment
     }
 }
 
-// The adjustment after a tick.
-fn spend(j: Adjustment) -> Adjustment
-    ensures { λ r. ⌜ r ≡ spent j ⌝ }
+// The steering after a tick: the adjustment loses a cycle, and with its last the one that waits becomes the running
+// one.
+fn steering_after(s: Steering) -> Steering
+    ensures { λ r. ⌜ r ≡ steeringAfter s ⌝ }
 {
-    if j.cycles <= 1 {
-        return no_adjustment();
+    let j = s.adjustment;
+    if j.cycles == 1 {
+        let next = s.waiting;
+        return Steering {
+            period: s.period,
+            adjustment: next,
+            waiting: no_adjustment(),
+        };
     }
-    Adjustment {
-        amount: j.amount,
-        cycles: j.cycles - 1,
+    let waiting = s.waiting;
+    Steering {
+        period: s.period,
+        adjustment: Adjustment {
+            amount: j.amount,
+            cycles: j.cycles - pick(j.cycles == 0, 0, 1),
+        },
+        waiting: waiting,
     }
 }
 
@@ -95,15 +107,10 @@ pub struct Steered {
 pub fn steer(s: Steering) -> Steered
     ensures { λ r. ⌜ r ≡ steeredOf s ⌝ }
 {
-    let j = s.adjustment;
-    let adjustment = spend(j);
     Steered {
         amount: cycle_amount(s),
-        steering: Steering {
-            period: s.period,
-            adjustment: adjustment,
-        },
-        last: j.cycles == 1,
+        steering: steering_after(s),
+        last: s.adjustment.cycles == 1,
     }
 }
 

@@ -1,9 +1,9 @@
 -- When the cycles have brought a need. Each phase of equal amounts is one division by that amount, and a phase may
--- stand before any course that has the law; so another phase is another use of `phase`.
+-- stand before any course that has the law; so each phase is a use of `phase`.
 use Prim.Native.Nat.{ℕ, _+_, _*_, _-_, _≤_, _<_, min}
 use mathlib.Core.Path.{_≡_}
 use mathlib.Core.Logic.{_↔_}
-use mathlib.Core.Bool.{true, cond}
+use mathlib.Core.Bool.{true}
 use native.Mathlib.Nat.{div-lt-iff-lt-mul, mul-le-mul-right}
 use native.Mathlib.Decide.{decLe}
 use native.Mathlib.Omega.{arith}
@@ -14,7 +14,7 @@ use Rattle.model.specs.Ranges.{steeringOk}
 use Rattle.model.specs.Elapse.{amountOf}
 use Rattle.model.proofs.Laws.Tests.{split}
 use Rattle.model.proofs.Laws.Ranges.{steering-in}
-use Rattle.elapse.specs.Reach.{cyclesOf, cyclesTo}
+use Rattle.elapse.specs.Reach.{cyclesOf, phaseTo, cyclesTo}
 
 -- what k cycles bring is at least a need exactly when the need's cycle has come
 abbrev pub Reaches : (ℕ → ℕ) → (ℕ → ℕ) → Type 0
@@ -64,22 +64,41 @@ module _ (c amount : ℕ) (rest : ℕ → ℕ) (zero : rest 0 ≡ 0) (cycle : �
       let n = law (need - c * amount) (k - c) (omega arith) in
       rw (late k (omega arith)) (λ x. omega (arith, n .0 (omega arith)), λ x. omega (arith, n .1 (omega arith)))
 
-  pub phase : Reaches (λ k. min k c * amount + rest (k - c))
-      (λ need. cond (leb need (c * amount)) (cyclesOf amount need) (c + cycle (need - c * amount)))
+  pub phase : Reaches (λ k. min k c * amount + rest (k - c)) (phaseTo c amount cycle)
   phase need k some =
       split (λ (r : ℕ). (need ≤ min k c * amount + rest (k - c)) ↔ (r ≤ k)) (leb need (c * amount))
       (λ e. within need k some (leb-true _ _ e) (decLe k c))
       (λ e. beyond need k some (leb-false _ _ e) (decLe k c))
 
--- the adjustment, and then PERIOD
+-- the running adjustment, the one that waits, and then PERIOD
+after-first : (s : Steering) → steeringOk s ≡ true
+    → Reaches (λ k. min k (s .waiting .cycles) * s .waiting .amount + (k - s .waiting .cycles) * s .period)
+    (phaseTo (s .waiting .cycles) (s .waiting .amount) (cyclesOf (s .period)))
+after-first s h =
+    let pos : 0 < s .period = omega (arith, steering-in s h .period .low) in
+    phase (s .waiting .cycles) (s .waiting .amount) (λ k. k * s .period) (omega arith) (cyclesOf (s .period))
+    (steady (s .period) pos)
+
 pub reaches : (s : Steering) → steeringOk s ≡ true → Reaches (amountOf s) (cyclesTo s)
 unfolding amountOf cyclesTo
 reaches s h =
-    let pos : 0 < s .period = omega (arith, steering-in s h .0 .low) in
-    phase (s .adjustment .cycles) (s .adjustment .amount) (λ k. k * s .period) (omega arith) (cyclesOf (s .period))
-    (steady (s .period) pos)
+    let none : min 0 (s .waiting .cycles) ≡ 0 = omega arith in
+    let rest : 0 - s .waiting .cycles ≡ 0 = omega arith in
+    phase (s .adjustment .cycles) (s .adjustment .amount)
+    (λ k. min k (s .waiting .cycles) * s .waiting .amount + (k - s .waiting .cycles) * s .period)
+    (rw (none, rest) (omega arith))
+    (phaseTo (s .waiting .cycles) (s .waiting .amount) (cyclesOf (s .period)))
+    (after-first s h)
 
 -- the cycle of a need is the first or a later one
 pub cycles-some : (s : Steering) (need : ℕ) → 1 ≤ cyclesTo s need
 unfolding cyclesTo
-cycles-some s need = split (λ (r : ℕ). 1 ≤ r) (leb need _) (λ e. omega arith) (λ e. omega arith)
+cycles-some s need =
+    phase-some (s .adjustment .cycles) (s .adjustment .amount) _
+    (phase-some (s .waiting .cycles) (s .waiting .amount) (cyclesOf (s .period)) (λ n. omega arith))
+    need
+  where
+    phase-some : (c amount : ℕ) (cycle : ℕ → ℕ) → ((n : ℕ) → 1 ≤ cycle n) → (n : ℕ) → 1 ≤ phaseTo c amount cycle n
+    phase-some c amount cycle some n =
+        split (λ (r : ℕ). 1 ≤ r) (leb n (c * amount)) (λ e. omega arith)
+        (λ e. omega (arith, some (n - c * amount)))

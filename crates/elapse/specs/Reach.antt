@@ -1,5 +1,5 @@
 -- The cycle in which the exact time has gained so much: until an edge, or until the end of time. Times are in 2^-32 ns,
--- cycles are counted from 1. Document 02, A.1.
+-- cycles are counted from 1. Document 02, A.1 and A.4.
 use Prim.Native.Nat.{ℕ, _+_, _*_, _-_, _/_, _^_}
 use mathlib.Core.Bool.{_&&_, cond}
 use lib.Dec.{eqb, leb}
@@ -20,12 +20,18 @@ inSecond k = k .nanoseconds * 2 ^ 32 + k .fraction * 2 ^ 24 + k .remainder
 abbrev pub cyclesOf : ℕ → ℕ → ℕ
 cyclesOf amount need = (need - 1) / amount + 1
 
--- the first cycle at whose end the cycles have brought a need: one of the adjustment's, or one after them
+-- the same where c cycles of one amount come first, and then another course
+abbrev pub phaseTo : ℕ → ℕ → (ℕ → ℕ) → ℕ → ℕ
+phaseTo c amount after need =
+    cond (leb need (c * amount)) (cyclesOf amount need) (c + after (need - c * amount))
+
+-- the first cycle at whose end the cycles have brought a need: one of the running adjustment's, one of those of the
+-- adjustment that waits (A.4), or one after them
 unfoldable pub cyclesTo : Steering → ℕ → ℕ
 cyclesTo s need =
-    cond (leb need (s .adjustment .cycles * s .adjustment .amount))
-    (cyclesOf (s .adjustment .amount) need)
-    (s .adjustment .cycles + cyclesOf (s .period) (need - s .adjustment .cycles * s .adjustment .amount))
+    phaseTo (s .adjustment .cycles) (s .adjustment .amount)
+    (phaseTo (s .waiting .cycles) (s .waiting .amount) (cyclesOf (s .period)))
+    need
 
 -- the first time shown, in 1/256 ns, that is above the pending instant
 unfoldable pub edgeTime : Generator → ℕ

@@ -1,14 +1,14 @@
 // Ticks by formula: what so many cycles bring, the cycle in which an edge or the end of time falls, and the clock and
 // the steering after them. Each function returns a definition of the model's specs/Elapse.antt or of specs/Reach.antt.
 // At most a million cycles bring less than a second, so that every number fits into 64 bits and the second carries at
-// most once. Document 02, A.1.
+// most once. Document 02, A.1 and A.4.
 ghost use mathlib.Core.Path.{_≡_};
 ghost use mathlib.Core.Bool.{true};
 ghost use Prim.Native.Nat.{_+_, _*_, _-_, _<_, _≤_, _^_};
 ghost use Rattle.model.specs.Clock.{clockAtExact};
 ghost use Rattle.model.specs.Ranges.{steeringOk};
 ghost use Rattle.model.specs.Bounds.{ClockIn};
-ghost use Rattle.model.specs.Elapse.{amountOf, spentBy, endsWithin};
+ghost use Rattle.model.specs.Elapse.{amountOf, spentBy, steeringBy, endsWithin};
 ghost use Rattle.elapse.specs.Reach.{second, inSecond, cyclesTo, edgeTime, edgeTick, ticksInTime};
 ghost use Rattle.elapse.specs.Asked.{Near, Reaching, InTime};
 use model::Adjustment;
@@ -26,13 +26,24 @@ const SECOND: u64 = 0x3B9A_CA00_0000_0000;
 
 const LAST_SECOND: u64 = 0xFFFF_FFFF_FFFF;
 
-// What n cycles bring: PER_ADJ for those of the adjustment, then PERIOD.
+// What n cycles bring, in three phases: the running adjustment's amount, that of the one that waits, then PERIOD. Where
+// none runs none waits, and they are PERIOD's at once.
 pub fn amount_of(s: Steering, n: u64) -> u64
     requires { ⌜ (steeringOk s ≡ true) × (n ≤ 1000000) ⌝ }
     ensures { λ r. ⌜ r ≡ amountOf s n ⌝ }
 {
-    let adjusted = pick(n <= s.adjustment.cycles, n, s.adjustment.cycles);
-    adjusted * s.adjustment.amount + (n - adjusted) * s.period
+    if s.adjustment.cycles == 0 {
+        return n * s.period;
+    }
+    if n <= s.adjustment.cycles {
+        return n * s.adjustment.amount;
+    }
+    let first = s.adjustment.cycles * s.adjustment.amount;
+    let rest = n - s.adjustment.cycles;
+    if rest <= s.waiting.cycles {
+        return first + rest * s.waiting.amount;
+    }
+    first + s.waiting.cycles * s.waiting.amount + (rest - s.waiting.cycles) * s.period
 }
 
 // The first cycle at whose end they have brought a need.
@@ -40,11 +51,16 @@ fn cycles_to(s: Steering, need: u64) -> u64
     requires { ⌜ (steeringOk s ≡ true) × (0 < need) ⌝ }
     ensures { λ r. ⌜ r ≡ cyclesTo s need ⌝ }
 {
-    let adjusted = s.adjustment.cycles * s.adjustment.amount;
-    if need <= adjusted {
+    let first = s.adjustment.cycles * s.adjustment.amount;
+    if need <= first {
         return (need - 1) / s.adjustment.amount + 1;
     }
-    s.adjustment.cycles + (need - adjusted - 1) / s.period + 1
+    let rest = need - first;
+    let second = s.waiting.cycles * s.waiting.amount;
+    let waits = rest <= second;
+    let left = rest - pick(waits, 0, second);
+    let before = s.adjustment.cycles + pick(waits, 0, s.waiting.cycles);
+    before + (left - 1) / pick(waits, s.waiting.amount, s.period) + 1
 }
 
 // What of the exact time lies in the second shown.
@@ -70,8 +86,8 @@ pub fn clock_at(seconds: u64, after: u64) -> Clock
     }
 }
 
-// The adjustment after n cycles.
-pub fn spend_by(j: Adjustment, n: u64) -> Adjustment
+// An adjustment after n cycles of its own.
+fn spend_by(j: Adjustment, n: u64) -> Adjustment
     ensures { λ r. ⌜ r ≡ spentBy j n ⌝ }
 {
     if j.cycles <= n {
@@ -83,7 +99,31 @@ pub fn spend_by(j: Adjustment, n: u64) -> Adjustment
     }
 }
 
-// Its last cycle is among the n: TAC.
+// The steering after n cycles: those that the running adjustment leaves over are the waiting one's. Where none runs it
+// stays.
+pub fn steer_by(s: Steering, n: u64) -> Steering
+    requires { ⌜ steeringOk s ≡ true ⌝ }
+    ensures { λ r. ⌜ r ≡ steeringBy s n ⌝ }
+{
+    if s.adjustment.cycles == 0 {
+        return s;
+    }
+    if s.adjustment.cycles <= n {
+        return Steering {
+            period: s.period,
+            adjustment: spend_by(s.waiting, n - s.adjustment.cycles),
+            waiting: clock::no_adjustment(),
+        };
+    }
+    let waiting = s.waiting;
+    Steering {
+        period: s.period,
+        adjustment: spend_by(s.adjustment, n),
+        waiting: waiting,
+    }
+}
+
+// The running adjustment's last cycle is among the n: TAC.
 pub fn ends_within(j: Adjustment, n: u64) -> bool
     ensures { λ r. ⌜ r ≡ endsWithin j n ⌝ }
 {

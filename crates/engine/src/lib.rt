@@ -26,11 +26,13 @@ pub fn power_on() -> Engine
 {
     let empty = fifo::empty_fifo();
     let idle = generator::idle_generator();
+    let none = clock::no_adjustment();
     Engine {
         clock: clock::set_clock(0, 0),
         steering: Steering {
             period: 0x800000000,
-            adjustment: clock::no_adjustment(),
+            adjustment: none,
+            waiting: none,
         },
         fifo1: empty,
         fifo2: empty,

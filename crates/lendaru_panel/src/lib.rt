@@ -10,7 +10,7 @@ use model::Command;
 use model::Engine;
 use model::Words;
 
-const RECORD_VERSION: u64 = 1;
+const RECORD_VERSION: u64 = 2;
 
 // What the caller is told: the answer and the five values.
 #[repr(C)]

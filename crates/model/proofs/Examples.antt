@@ -1,6 +1,6 @@
 -- The examples, as one list proved by one statement: the starred ones of document 01, each cell of its tables of words,
--- run lines and timestamps. Each holds because the definitions compute: a run from power-on gives the numbers that the
--- papers state or that were worked out from them.
+-- run lines, adjustments in succession and timestamps. Each holds because the definitions compute: a run from power-on
+-- gives the numbers that the papers state or that were worked out from them.
 use Prim.Native.Nat.{ℕ}
 use mathlib.Core.Path.{_≡_, refl}
 use mathlib.Core.List.{List, [], _∷_, _++_, map}
@@ -21,7 +21,7 @@ use Rattle.model.specs.Ranges
 use Rattle.model.specs.Fields
 use Rattle.model.specs.Checks
 use Rattle.model.specs.Execute
-use Rattle.model.specs.Run.{engineFrom, historyFrom}
+use Rattle.model.specs.Run.{engineBy, historyBy}
 use Rattle.model.specs.Text
 use Rattle.model.specs.Sheet
 use Rattle.model.specs.Results
@@ -30,16 +30,18 @@ use Rattle.model.proofs.Examples.Runs.{Example, answers, lastValues, va
 use Rattle.model.proofs.Examples.Starred.{shownAfter, edgeAt, edgesFrom, verdict, starred}
 use Rattle.model.proofs.Examples.Cells.{timeCell, amountCell, countCell, refusedCell, cells}
 use Rattle.model.proofs.Examples.RunLines.{runLines}
+use Rattle.model.proofs.Examples.Adjustments.{adjustments}
 use Rattle.model.proofs.Examples.Timestamps.{timestamps}
--- commands, the four parts of the list
+-- commands, the five parts of the list
 pub mod Runs
 pub mod Starred
 pub mod Cells
 pub mod RunLines
+pub mod Adjustments
 pub mod Timestamps
 
 pub examples : List Example
-examples = starred ++ cells ++ runLines ++ timestamps
+examples = starred ++ cells ++ runLines ++ adjustments ++ timestamps
 
 -- two lists of numbers are compared number by number, so that a list that is not as stated fails at once
 same : List ℕ → List ℕ → Bool
@@ -70,20 +72,20 @@ stated-equal (x ∷ xs) h =
     rw (same-equal (x .found) (x .stated) (t .0), stated-equal xs (t .1))
 
 examples-tested : asStated examples ≡ true
-unfolding examples starred cells runLines timestamps timeCell amountCell countCell refusedCell asStated same answers
-    lastValues values shownAfter edgeAt edgesFrom verdict engineFrom historyFrom Words.secondsIn Words.nanosecondsIn
-    Words.aboveNanoseconds Words.wholeIn Words.fracIn Words.amountIn Words.belowFrac Words.countIn Words.timeWords
-    Clock.cycleAmount Clock.stepBy Clock.remainderBy Clock.ticked Clock.spent Clock.lastCycle Clock.steeringAfter
-    Fifo.timestampNs Fifo.timestampOf Fifo.captured Fifo.capturesFirst Fifo.overflows Fifo.popped Generator.nextInstant
-    Generator.isBefore Generator.isDue Generator.startsBy Generator.firstOf Generator.eighthOf Generator.placed
-    Generator.following Generator.generated
-    Generator.completesEvent Generator.completesSequence Interrupts.withBit Interrupts.latch Interrupts.anyBoth
-    Interrupts.interruptWord Interrupts.statusWord Interrupts.onlyBits Record.powerOn Ranges.clockOk Ranges.adjustmentOk
-    Ranges.steeringOk Ranges.timestampOk Ranges.placeOk Ranges.fifoOk Ranges.generatorOk Ranges.interruptsOk
-    Ranges.wordsOk Ranges.valid Fields.fieldTests Fields.fieldsOk Checks.checks Checks.answerOf Tick.tickEvents
-    Tick.tickEngine Tick.tickValues RunLine.hasEnded RunLine.oneMore RunLine.run RunLine.ran Orders.written
-    Orders.readWords Orders.readEngine Orders.commanded Orders.interruptsRead Orders.statusOf Ops.performed
-    Execute.execute Text.isValue Sheet.isLine Sheet.sheetVerdict Sheet.commandsIn Text.decimal Results.results
+unfolding examples starred cells runLines adjustments timestamps timeCell amountCell countCell refusedCell asStated
+    same answers lastValues values shownAfter edgeAt edgesFrom verdict engineBy historyBy Words.secondsIn
+    Words.nanosecondsIn Words.aboveNanoseconds Words.wholeIn Words.fracIn Words.amountIn Words.belowFrac Words.countIn
+    Words.timeWords Clock.cycleAmount Clock.stepBy Clock.remainderBy Clock.ticked Clock.lastCycle Clock.steeringAfter
+    Clock.adjustedBy Fifo.timestampNs Fifo.timestampOf Fifo.captured Fifo.capturesFirst Fifo.overflows Fifo.popped
+    Generator.nextInstant Generator.isBefore Generator.isDue Generator.startsBy Generator.firstOf Generator.eighthOf
+    Generator.placed Generator.following Generator.generated Generator.completesEvent Generator.completesSequence
+    Interrupts.withBit Interrupts.latch Interrupts.anyBoth Interrupts.interruptWord Interrupts.statusWord
+    Interrupts.onlyBits Record.powerOn Ranges.clockOk Ranges.adjustmentOk Ranges.steeringOk Ranges.timestampOk
+    Ranges.placeOk Ranges.fifoOk Ranges.generatorOk Ranges.interruptsOk Ranges.wordsOk Ranges.valid Fields.fieldTests
+    Fields.fieldsOk Checks.checks Checks.answerOf Tick.tickEvents Tick.tickEngine Tick.tickValues RunLine.hasEnded
+    RunLine.oneMore RunLine.run RunLine.ran Orders.written Orders.readWords Orders.readEngine Orders.commanded
+    Orders.interruptsRead Orders.statusOf Ops.performed Execute.execute Text.isValue Sheet.isLine Sheet.sheetVerdict
+    Sheet.commandsIn Text.decimal Results.results
 examples-tested = refl
 
 -- every example is as stated

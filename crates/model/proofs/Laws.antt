@@ -13,7 +13,8 @@ pub mod Clock
 pub mod Fifo
 pub mod Generator
 pub mod Bits
--- the whole: what an accepted command has passed, that a valid record stays valid, ticks, outcomes
+-- the whole: what an accepted command has passed, that a valid record stays valid, ticks, outcomes, timestamps; number
+-- 11 as it was, and what the waiting adjustment does
 pub mod Checks
 pub mod Parts
 pub mod Interrupts
@@ -23,8 +24,11 @@ pub mod Valid
 pub mod Ticks
 pub mod Outcomes
 pub mod Timestamps
+pub mod BeforeWaiting
+pub mod Waiting
 -- ticks by formula: the clock and the steering, the record; a run line by `execute` alone
 pub mod Cycles
+pub mod Phases
 pub mod Elapse
 pub mod RunLine
 -- fractions, the eighth of an edge, and its lag

@@ -5,6 +5,8 @@ pub mod Demand3
 pub mod RunLines
 pub mod Timestamps
 pub mod EighthIsFloor
+pub mod WaitingAdjustment
+pub mod BeforeWaiting
 pub mod Sheets
 pub mod Examples
 pub mod Laws

@@ -18,7 +18,7 @@ pub record AmountIn (x : ℕ) : Type 0 where
   pub low : 2 ^ 32 ≤ x
   pub high : x < 2 ^ 40
 
--- a running adjustment
+-- an adjustment with cycles left, running or waiting
 pub record AdjustmentIn (j : Adjustment) : Type 0 where
   pub amount : AmountIn (j .amount)
   pub some : 0 < j .cycles

@@ -1,5 +1,5 @@
 -- The table of document 01, "Where each command is checked": checks run from the top, and the first that fails is the
--- answer.
+-- answer. Number 11 is document 02's, A.4: the waiting place is taken.
 use Prim.Native.Nat.{ℕ, _+_, _*_, _-_, _<_, _≤_}
 use mathlib.Core.Path.{_≡_}
 use mathlib.Core.List.{List, [], _∷_, map}
@@ -64,7 +64,7 @@ laterRows =
     ∷ row 8 (writes 0) (λ e c. leb (nanosecondsIn (e .words)) 999999999 && eqb (aboveNanoseconds (e .words)) 0)
     ∷ row 9 writesAmount (λ e c. leb 1 (wholeIn (e .words)) && (writes 2 c || eqb (belowFrac (e .words)) 0))
     ∷ row 10 (writes 2) (λ e c. leb 1 (countIn (e .words)))
-    ∷ row 11 (writes 2) (λ e c. eqb (e .steering .adjustment .cycles) 0)
+    ∷ row 11 (writes 2) (λ e c. eqb (e .steering .waiting .cycles) 0)
     ∷ row 12 (isOp 3) (λ e c. ltb (c .e) (c .f))
     ∷ row 13 (isOp 3) (λ e c. not (isRunning (generator e (c .a))))
     ∷ row 14 (isOp 3) (λ e c. leb (shown (e .clock)) ((c .b * 1000000000 + c .c) * 256))

@@ -1,7 +1,7 @@
--- The clock, on totals. Document 01, "The clock"; sheet 000, 6.13.1.
+-- The clock, on totals, and its steering. Document 01, "The clock"; sheet 000, 6.13.1; document 02, A.4.
 use Prim.Native.Nat.{ℕ, _+_, _*_, _-_, _/_, _%_, _^_}
 use mathlib.Core.Bool.{Bool, cond}
-use lib.Dec.{eqb, leb}
+use lib.Dec.{eqb}
 use Rattle.model.specs.declared.Clock.{Clock}
 use Rattle.model.specs.declared.Adjustment.{Adjustment}
 use Rattle.model.specs.declared.Steering.{Steering}
@@ -50,19 +50,32 @@ ticked k amount = clockAt (shown k + stepBy k amount) (remainderBy k amount)
 abbrev pub noAdjustment : Adjustment
 noAdjustment = record { amount = 0; cycles = 0 }
 
--- an adjustment loses one cycle with each tick, and is idle when none is left; its last sets TAC
-abbrev pub isOver : Adjustment → Bool
-isOver j = leb (j .cycles) 1
-
-unfoldable pub spent : Adjustment → Adjustment
-spent j = cond (isOver j) noAdjustment (record { amount = j .amount; cycles = j .cycles - 1 })
+-- an adjustment loses one cycle with each tick; its last sets TAC
+abbrev pub oneLess : Adjustment → Adjustment
+oneLess j = record { amount = j .amount; cycles = j .cycles - 1 }
 
 unfoldable pub lastCycle : Adjustment → Bool
 lastCycle j = eqb (j .cycles) 1
 
--- the steering after a cycle: PERIOD stays, and the adjustment loses a cycle
+-- the waiting adjustment "becomes the running one in the tick that ends the other and steers from the tick after"
+-- (document 02, A.4); where none waits, none runs then
+abbrev pub takenUp : Steering → Steering
+takenUp s = record { period = s .period; adjustment = s .waiting; waiting = noAdjustment }
+
+-- the steering after a cycle; PERIOD stays
 unfoldable pub steeringAfter : Steering → Steering
-steeringAfter s = record { period = s .period; adjustment = spent (s .adjustment) }
+steeringAfter s =
+    cond (lastCycle (s .adjustment))
+    (takenUp s)
+    (record { period = s .period; adjustment = oneLess (s .adjustment); waiting = s .waiting })
+
+-- the steering after an adjust write: it runs at once where none runs, and waits behind one that does (document 02,
+-- A.4)
+unfoldable pub adjustedBy : Steering → Adjustment → Steering
+adjustedBy s j =
+    cond (eqb (s .adjustment .cycles) 0)
+    (record { period = s .period; adjustment = j; waiting = s .waiting })
+    (record { period = s .period; adjustment = s .adjustment; waiting = j })
 
 -- a TIME write clears fraction and remainder
 abbrev pub clockSet : ℕ → ℕ → Clock

@@ -1,5 +1,6 @@
 -- The ledger of demand 3, as document 01 has it under that heading: an account kept beside the engine, that never looks
--- into the record. What it holds, by subject, and its steps. Times and amounts are in ns.
+-- into the record. What it holds, by subject, and its steps. Times and amounts are in ns. The adjust write that waits
+-- is document 02's, A.4.
 use Prim.Native.Nat.{ℕ, zero, suc, _+_, _*_, _-_, _^_}
 use mathlib.Core.List.{List, [], _∷_, _++_}
 use mathlib.Core.Bool.{cond}
@@ -10,11 +11,17 @@ use Rattle.model.specs.declared.Words.{Words}
 use Rattle.model.specs.Words.{noWords, secondsIn, nanosecondsIn, amountIn, countIn}
 use Rattle.model.specs.Fractions.{Fraction, over, plus}
 
--- PERIOD, PER_ADJ and the adjust cycles owed
+-- an adjust write that waits: none, or its PER_ADJ and its cycles (document 02, A.4)
+pub data Waiting : Type 0 where
+  noneWaits : Waiting
+  waits : Fraction → ℕ → Waiting
+
+-- PERIOD, PER_ADJ, the adjust cycles owed, and the adjust write that waits
 pub record LedgerSteering : Type 0 where
   pub period : Fraction
   pub adjust : Fraction
   pub owed : ℕ
+  pub waiting : Waiting
 
 -- a generator's order: none, or a start, an interval and a count
 pub data Order : Type 0 where
@@ -51,7 +58,7 @@ unfoldable pub openLedger : Ledger
 openLedger = record {
   words = noWords;
   time = over 0 1;
-  steering = record { period = over 8 1; adjust = over 0 1; owed = 0 };
+  steering = record { period = over 8 1; adjust = over 0 1; owed = 0; waiting = noneWaits };
   train1 = opened none;
   train2 = opened none;
 }
@@ -60,9 +67,17 @@ openLedger = record {
 abbrev pub ordered : LedgerSteering → Fraction
 ordered s = cond (eqb (s .owed) 0) (s .period) (s .adjust)
 
+-- the write that waits "becomes PER_ADJ and the cycles owed when a tick takes the last one" (document 02, A.4)
+abbrev pub turnOf : Waiting → LedgerSteering → LedgerSteering
+turnOf noneWaits s = record { period = s .period; adjust = s .adjust; owed = 0; waiting = noneWaits }
+turnOf (waits amount count) s = record { period = s .period; adjust = amount; owed = count; waiting = noneWaits }
+
 -- where cycles are owed, a tick takes one off
 abbrev pub cycleTaken : LedgerSteering → LedgerSteering
-cycleTaken s = record { period = s .period; adjust = s .adjust; owed = s .owed - 1 }
+cycleTaken s =
+    cond (eqb (s .owed) 1)
+    (turnOf (s .waiting) s)
+    (record { period = s .period; adjust = s .adjust; owed = s .owed - 1; waiting = s .waiting })
 
 -- op 0: the amount ordered is added to the exact time
 abbrev pub ledgerTicked : Ledger → Ledger
@@ -116,12 +131,22 @@ amountWritten l = over (amountIn (l .words)) (2 ^ 32)
 abbrev pub ledgerPeriod : Ledger → Ledger
 ledgerPeriod l =
     ledgerSteering l
-    (record { period = amountWritten l; adjust = l .steering .adjust; owed = l .steering .owed })
+    (record {
+      period = amountWritten l;
+      adjust = l .steering .adjust;
+      owed = l .steering .owed;
+      waiting = l .steering .waiting;
+    })
+
+-- "an adjust write waits while cycles are owed" (document 02, A.4)
+abbrev pub adjustOrdered : LedgerSteering → Fraction → ℕ → LedgerSteering
+adjustOrdered s amount count =
+    cond (eqb (s .owed) 0)
+    (record { period = s .period; adjust = amount; owed = count; waiting = s .waiting })
+    (record { period = s .period; adjust = s .adjust; owed = s .owed; waiting = waits amount count })
 
 abbrev pub ledgerAdjust : Ledger → Ledger
-ledgerAdjust l =
-    ledgerSteering l
-    (record { period = l .steering .period; adjust = amountWritten l; owed = countIn (l .words) })
+ledgerAdjust l = ledgerSteering l (adjustOrdered (l .steering) (amountWritten l) (countIn (l .words)))
 
 -- the writes by their selector, from 0; any other selector writes nothing
 abbrev pub ledgerWritings : List (Ledger → Ledger)

@@ -19,7 +19,7 @@ pub mod Elapse
 pub mod Orders
 pub mod Ops
 -- the record's ranges (number 4), the field lists (number 6), the table of checks; the checks, then the op; a run, and
--- the timestamps in it; the eighth by its old formula, for a theorem
+-- the timestamps in it; for theorems, the eighth by its old formula and number 11 as it was
 pub mod Ranges
 pub mod Bounds
 pub mod Fields
@@ -28,6 +28,7 @@ pub mod Execute
 pub mod Run
 pub mod Timestamps
 pub mod FloorEighth
+pub mod BeforeWaiting
 -- the command sheet: text, the sheet's own checks (numbers 1 to 3) and its commands, and what its run prints
 pub mod Text
 pub mod Sheet

@@ -8,10 +8,11 @@ use Rattle.model.specs.declared.Engine.{Engine}
 use Rattle.model.specs.declared.Command.{Command}
 use Rattle.model.specs.declared.Outcome.{Outcome}
 use Rattle.model.specs.declared.Words.{Words}
+use Rattle.model.specs.declared.Adjustment.{Adjustment}
 use Rattle.model.specs.declared.Generator.{Generator}
 use Rattle.model.specs.declared.Timestamp.{Timestamp}
 use Rattle.model.specs.Words.{five, noWords, secondsIn, nanosecondsIn, amountIn, countIn, timeWords}
-use Rattle.model.specs.Clock.{clockSet}
+use Rattle.model.specs.Clock.{clockSet, adjustedBy}
 use Rattle.model.specs.Fifo.{entry, popped, isEmpty}
 use Rattle.model.specs.Generator.{idleGenerator}
 use Rattle.model.specs.Interrupts.{interruptWord, statusWord}
@@ -23,8 +24,8 @@ use Rattle.model.specs.Outcome.{accepted}
 abbrev pub loadedWords : Command → Words
 loadedWords c = five (c .a) (c .b) (c .c) (c .d) (c .e)
 
--- op 2, the write. TIME clears fraction and remainder and stops both generators; an adjustment and the stored
--- timestamps remain
+-- op 2, the write. TIME clears fraction and remainder and stops both generators; the steering, both adjustments
+-- included (document 02, A.4), and the stored timestamps remain
 abbrev pub timeWritten : Engine → Engine
 timeWritten e =
     withGenerators
@@ -32,15 +33,19 @@ timeWritten e =
     idleGenerator idleGenerator
 
 abbrev pub periodWritten : Engine → Engine
-periodWritten e = withSteering e (record { period = amountIn (e .words); adjustment = e .steering .adjustment })
-
-abbrev pub adjustWritten : Engine → Engine
-adjustWritten e =
+periodWritten e =
     withSteering e
     (record {
-      period = e .steering .period;
-      adjustment = record { amount = amountIn (e .words); cycles = countIn (e .words) };
+      period = amountIn (e .words);
+      adjustment = e .steering .adjustment;
+      waiting = e .steering .waiting;
     })
+
+abbrev pub adjustmentIn : Words → Adjustment
+adjustmentIn w = record { amount = amountIn w; cycles = countIn w }
+
+abbrev pub adjustWritten : Engine → Engine
+adjustWritten e = withSteering e (adjustedBy (e .steering) (adjustmentIn (e .words)))
 
 -- the writes by their selector, from 0; any other selector writes nothing
 abbrev pub writings : List (Engine → Engine)

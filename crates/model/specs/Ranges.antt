@@ -1,7 +1,8 @@
--- The ranges of the record: number 4. Document 01, "Where each command is checked", below the table.
+-- The ranges of the record: number 4. Document 01, "Where each command is checked", below the table; the waiting
+-- adjustment, document 02, A.4.
 use Prim.Native.Nat.{ℕ, _^_}
 use mathlib.Core.List.{List, [], _∷_}
-use mathlib.Core.Bool.{Bool, _&&_, not, cond}
+use mathlib.Core.Bool.{Bool, _&&_, _||_, not, cond}
 use lib.Dec.{eqb, leb, ltb}
 use Rattle.model.specs.declared.Clock.{Clock}
 use Rattle.model.specs.declared.Adjustment.{Adjustment}
@@ -31,17 +32,27 @@ clockTests k =
 unfoldable pub clockOk : Clock → Bool
 clockOk k = every (clockTests k)
 
--- PERIOD or a running PER_ADJ: 40 bits, with NS not 0
+-- PERIOD or the PER_ADJ of an adjustment: 40 bits, with NS not 0
 abbrev pub amountOk : ℕ → Bool
 amountOk x = leb (2 ^ 32) x && ltb x (2 ^ 40)
 
--- idle and zero, or running with at most 2^24 - 1 cycles left
+-- none and zero, or with at most 2^24 - 1 cycles left
 unfoldable pub adjustmentOk : Adjustment → Bool
 adjustmentOk j =
     cond (eqb (j .cycles) 0) (eqb (j .amount) 0) (amountOk (j .amount) && ltb (j .cycles) (2 ^ 24))
 
+-- none waits while none runs
+abbrev pub waitsBehind : Steering → Bool
+waitsBehind s = eqb (s .waiting .cycles) 0 || not (eqb (s .adjustment .cycles) 0)
+
+-- the waiting adjustment is "checked like the running one", and 4 "is also given if one waits while none runs"
+-- (document 02, A.4)
+abbrev pub steeringTests : Steering → List Bool
+steeringTests s =
+    amountOk (s .period) ∷ adjustmentOk (s .adjustment) ∷ adjustmentOk (s .waiting) ∷ waitsBehind s ∷ []
+
 unfoldable pub steeringOk : Steering → Bool
-steeringOk s = amountOk (s .period) && adjustmentOk (s .adjustment)
+steeringOk s = every (steeringTests s)
 
 unfoldable pub timestampOk : Timestamp → Bool
 timestampOk t = every (secondsOk (t .seconds) ∷ nanosecondsOk (t .nanoseconds) ∷ leb (t .rising) 1 ∷ [])

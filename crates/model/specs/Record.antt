@@ -18,7 +18,7 @@ use Rattle.model.specs.Generator.{idleGenerator}
 unfoldable pub powerOn : Engine
 powerOn = record {
   clock = clockSet 0 0;
-  steering = record { period = 8 * 2 ^ 32; adjustment = noAdjustment };
+  steering = record { period = 8 * 2 ^ 32; adjustment = noAdjustment; waiting = noAdjustment };
   fifo1 = emptyFifo;
   fifo2 = emptyFifo;
   fifo3 = emptyFifo;
@@ -28,9 +28,10 @@ powerOn = record {
   words = noWords;
 }
 
--- the version of the record's layout, for callers that keep a record. A part that is added counts it on
+-- the version of the record's layout, for callers that keep a record. A part that is added counts it on: 2 has the
+-- waiting adjustment (document 02, A.4)
 abbrev pub recordVersion : ℕ
-recordVersion = 1
+recordVersion = 2
 
 -- the record with a part replaced
 abbrev pub withClock : Engine → Clock → Engine

@@ -20,15 +20,22 @@ pub record Entry : Type 0 where
 abbrev pub entryOf : Command → Outcome → Entry
 entryOf c o = record { command = c; answer = o .answer; values = o .values }
 
--- the record after the list
-unfoldable pub engineFrom : Engine → List Command → Engine
-engineFrom e [] = e
-engineFrom e (c ∷ cs) = engineFrom (execute e c .engine) cs
+-- the record after a list of commands, each of which gives what a step says
+unfoldable pub engineBy : (Engine → Command → Outcome) → Engine → List Command → Engine
+engineBy step e [] = e
+engineBy step e (c ∷ cs) = engineBy step (step e c .engine) cs
 
 -- what was told of the list
-unfoldable pub historyFrom : Engine → List Command → List Entry
-historyFrom e [] = []
-historyFrom e (c ∷ cs) = entryOf c (execute e c) ∷ historyFrom (execute e c .engine) cs
+unfoldable pub historyBy : (Engine → Command → Outcome) → Engine → List Command → List Entry
+historyBy step e [] = []
+historyBy step e (c ∷ cs) = entryOf c (step e c) ∷ historyBy step (step e c .engine) cs
+
+-- by the checks and the ops
+abbrev pub engineFrom : Engine → List Command → Engine
+engineFrom e cs = engineBy execute e cs
+
+abbrev pub historyFrom : Engine → List Command → List Entry
+historyFrom e cs = historyBy execute e cs
 
 -- from power-on
 abbrev pub engineAfter : List Command → Engine

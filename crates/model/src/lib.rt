@@ -33,18 +33,19 @@ pub struct Clock {
     pub remainder: u64,
 }
 
-// PER_ADJ in 2^-32 ns and the cycles that are left of it; idle is all zeros.
+// PER_ADJ in 2^-32 ns and the cycles that are left of it; none is all zeros.
 #[repr(C)]
 pub struct Adjustment {
     pub amount: u64,
     pub cycles: u64,
 }
 
-// PERIOD in 2^-32 ns, and the running adjustment.
+// PERIOD in 2^-32 ns, the running adjustment, and the one that waits behind it (document 02, A.4).
 #[repr(C)]
 pub struct Steering {
     pub period: u64,
     pub adjustment: Adjustment,
+    pub waiting: Adjustment,
 }
 
 // The timestamp of an input edge; rising is 1 or 0.

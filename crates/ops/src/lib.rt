@@ -1,10 +1,11 @@
 // Ops 1 to 8 on a record that has passed their checks: each function is one op, or the write or the read of op 2, and
 // returns the change to the record that a definition of the model's specs/Execute.antt gives. Document 01, "Command
-// sheet" and "The five words".
+// sheet" and "The five words"; the adjustment that waits, document 02, A.4.
 ghost use mathlib.Core.Path.{_≡_};
 ghost use mathlib.Core.Bool.{false};
 ghost use Prim.Native.Nat.{_<_, _^_};
 ghost use Rattle.model.specs.Words.{noWords};
+ghost use Rattle.model.specs.Clock.{adjustedBy};
 ghost use Rattle.model.specs.Fifo.{isEmpty, entry};
 ghost use Rattle.model.specs.Generator.{idleGenerator};
 ghost use Rattle.model.specs.Record.{withWords, withGenerator, fifo};
@@ -81,13 +82,35 @@ fn write_period(e: Engine) -> Engine
     ensures { λ r. ⌜ r ≡ periodWritten e ⌝ }
 {
     let adjustment = e.steering.adjustment;
+    let waiting = e.steering.waiting;
     record::with_steering(
         e,
         Steering {
             period: words::amount_in(e.words),
             adjustment: adjustment,
+            waiting: waiting,
         },
     )
+}
+
+// The steering with one adjustment more: it runs at once where none runs, and waits behind one that does.
+fn adjust(s: Steering, j: Adjustment) -> Steering
+    ensures { λ r. ⌜ r ≡ adjustedBy s j ⌝ }
+{
+    if s.adjustment.cycles == 0 {
+        let next = s.waiting;
+        return Steering {
+            period: s.period,
+            adjustment: j,
+            waiting: next,
+        };
+    }
+    let running = s.adjustment;
+    Steering {
+        period: s.period,
+        adjustment: running,
+        waiting: j,
+    }
 }
 
 // Op 2, write 2: the adjustment.
@@ -95,17 +118,11 @@ fn write_adjustment(e: Engine) -> Engine
     requires { ⌜ WordsIn (e .words) ⌝ }
     ensures { λ r. ⌜ r ≡ adjustWritten e ⌝ }
 {
-    let adjustment = Adjustment {
+    let j = Adjustment {
         amount: words::amount_in(e.words),
         cycles: words::count_in(e.words),
     };
-    record::with_steering(
-        e,
-        Steering {
-            period: e.steering.period,
-            adjustment: adjustment,
-        },
-    )
+    record::with_steering(e, adjust(e.steering, j))
 }
 
 // Op 2, the write by its selector; 16 writes nothing.

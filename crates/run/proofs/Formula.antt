@@ -47,8 +47,8 @@ module _ (e : Engine) (v : Valid e) where
 
   quiet-on : (k : ℕ) → Quiet (suc k) e → oneTick (quietly k e) ≡ quietly (suc k) e
   quiet-on k q = λ i. record {
-    engine = tick-elapsed e k q i;
-    values = values-elapsed e k q i;
+    engine = tick-elapsed e v k q i;
+    values = values-elapsed e v k q i;
     done = suc k;
   }
 

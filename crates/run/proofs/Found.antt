@@ -29,9 +29,13 @@ module _ (a b : ℕ) where
   unfolding earliest
   none-left z = rw (eq-eqb a 0 z)
 
-  pub none-right : (a ≡ 0 → ⊥) → b ≡ 0 → earliest a b ≡ a
+  pub none-right : b ≡ 0 → earliest a b ≡ a
   unfolding earliest
-  none-right n z = rw (ne-eqb a 0 n, eq-eqb b 0 z)
+  none-right z =
+      elim (ℕ-discrete a 0) [
+        | yes q ↦ rw (eq-eqb a 0 q) (z ∙ sym q)
+        | no q ↦ rw (ne-eqb a 0 q, eq-eqb b 0 z)
+      ]
 
   pub both-some : (a ≡ 0 → ⊥) → (b ≡ 0 → ⊥) → earliest a b ≡ min a b
   unfolding earliest
@@ -46,6 +50,10 @@ module _ (e : Engine) (v : Valid e) (n : ℕ) (most : n ≤ 1000000) where
 
   pub few-most : few ≤ 1000000
   few-most = omega (arith, time .few)
+
+  -- and where they are not fewer than n, they are n
+  pub few-all : (m : ℕ) → m ≡ few → n ≤ m → n ≡ few
+  few-all m is h = omega (arith, time .few)
 
   -- the tick of a generator's edge
   abbrev pub tickOf : Generator → ℕ
@@ -82,11 +90,11 @@ module _ (e : Engine) (v : Valid e) (n : ℕ) (most : n ≤ 1000000) where
 
   pub numbers-are : {amount m within t₁ t₂ f : ℕ} → amount ≡ amountOf (e .steering) n
       → m ≡ ticksInTime (e .clock) (e .steering) n amount
-      → within ≡ amountOf (e .steering) m
+      → within ≡ amountOf (e .steering) few
       → t₁ ≡ edgeTick (e .generator1) (e .clock) (e .steering) within
       → t₂ ≡ edgeTick (e .generator2) (e .clock) (e .steering) within
       → f ≡ earliest t₁ t₂ → (m ≡ few) × (f ≡ first)
-  numbers-are h₁ h₂ h₃ h₄ h₅ h₆ = let is = few-is h₁ h₂ in (is, rw (h₆, h₄, h₅, h₃, is) refl)
+  numbers-are h₁ h₂ h₃ h₄ h₅ h₆ = (few-is h₁ h₂, rw (h₆, h₄, h₅, h₃) refl)
 
   -- no edge: the run passes the ticks in time
   neither-has : first ≡ 0 → (one ≡ 0) × (two ≡ 0)
@@ -95,7 +103,7 @@ module _ (e : Engine) (v : Valid e) (n : ℕ) (most : n ≤ 1000000) where
         | yes a ↦ (a, sym (none-left one two a) ∙ z)
         | no a ↦
             elim (ℕ-discrete two 0) [
-              | yes b ↦ absurd (a (sym (none-right one two a b) ∙ z))
+              | yes b ↦ absurd (a (sym (none-right one two b) ∙ z))
               | no b ↦ absurd (omega (arith, both-some one two a b))
             ]
       ]
@@ -154,7 +162,7 @@ module _ (e : Engine) (v : Valid e) (n : ℕ) (most : n ≤ 1000000) where
             rw (none-left one two a) (by-two (λ b. some (none-left one two a ∙ b)) (λ q. absurd (q a)))
         | no a ↦
             elim (ℕ-discrete two 0) [
-              | yes b ↦ rw (none-right one two a b) (by-one a (λ q. absurd (q b)))
+              | yes b ↦ rw (none-right one two b) (by-one a (λ q. absurd (q b)))
               | no b ↦ rw (both-some one two a b) (both-have a b)
             ]
       ]

@@ -4,6 +4,7 @@ ghost use mathlib.Core.Path.{_≡_};
 ghost use mathlib.Core.Bool.{true};
 ghost use Prim.Native.Nat.{_≤_};
 ghost use Rattle.model.specs.RunLine.{oneTick, run as runSpec};
+ghost use Rattle.model.specs.Elapse.{amountOf};
 ghost use Rattle.model.specs.Ranges.{valid};
 ghost use Rattle.model.specs.Execute.{execute};
 ghost use Rattle.change.specs.Changes.{Gives};
@@ -15,7 +16,6 @@ use interrupts::latch_two;
 use model::Command;
 use model::Engine;
 use model::Interrupts;
-use model::Steering;
 use model::WORD_LIMIT;
 use model::Words;
 use words::no_words;
@@ -24,25 +24,25 @@ use words::no_words;
 fn earlier(a: u64, b: u64) -> u64
     ensures { λ r. ⌜ r ≡ earliest a b ⌝ }
 {
-    if a == 0 {
-        return b;
-    }
     if b == 0 {
         return a;
+    }
+    if a == 0 {
+        return b;
     }
     if a <= b { a } else { b }
 }
 
-// n ticks without an edge; `here` is what of the exact time lies in the second shown.
-fn pass(e: Engine, here: u64, n: u64) -> Change
+// n ticks without an edge, which bring this amount; `here` is what of the exact time lies in the second shown.
+fn pass(e: Engine, here: u64, n: u64, amount: u64) -> Change
     requires { ⌜ Starting e here n ⌝ }
+    requires { ⌜ amount ≡ amountOf (e .steering) n ⌝ }
     ensures { λ r. ⌜ r ≡ ranTo (quietly n e) ⌝ }
 {
-    let amount = elapse::amount_of(e.steering, n);
-    let clock = elapse::clock_at(e.clock.seconds, here + amount);
-    let adjustment = elapse::spend_by(e.steering.adjustment, n);
     let ended = elapse::ends_within(e.steering.adjustment, n);
     let latched = latch(e.interrupts.latched, 0, ended);
+    let steering = elapse::steer_by(e.steering, n);
+    let clock = elapse::clock_at(e.clock.seconds, here + amount);
     let generator1 = e.generator1;
     let generator2 = e.generator2;
     let words = e.words;
@@ -56,10 +56,7 @@ fn pass(e: Engine, here: u64, n: u64) -> Change
             w5: 0,
         },
         clock: clock,
-        steering: Steering {
-            period: e.steering.period,
-            adjustment: adjustment,
-        },
+        steering: steering,
         generator1: generator1,
         generator2: generator2,
         interrupts: Interrupts {
@@ -77,7 +74,7 @@ fn meet(e: Engine, here: u64, n: u64) -> Change
     requires { ⌜ Ending e here n ⌝ }
     ensures { λ r. ⌜ r ≡ ranTo (oneTick (quietly n e)) ⌝ }
 {
-    let before = pass(e, here, n);
+    let before = pass(e, here, n, elapse::amount_of(e.steering, n));
     let steered = clock::steer(before.steering);
     let step = clock::step_by(before.clock, steered.amount);
     let next = clock::tick_clock(before.clock, steered.amount, step);
@@ -121,12 +118,15 @@ fn run_within(e: Engine, n: u64) -> Change
     let here = elapse::in_second(e.clock);
     let amount = elapse::amount_of(e.steering, n);
     let few = elapse::ticks_in_time(e.clock, here, e.steering, n, amount);
-    let within = elapse::amount_of(e.steering, few);
+    let mut within = amount;
+    if few < n {
+        within = elapse::amount_of(e.steering, few);
+    }
     let tick1 = elapse::edge_tick(e.generator1, e.clock, here, e.steering, within);
     let tick2 = elapse::edge_tick(e.generator2, e.clock, here, e.steering, within);
     let first = earlier(tick1, tick2);
     if first == 0 {
-        return pass(e, here, few);
+        return pass(e, here, few, within);
     }
     meet(e, here, first - 1)
 }

@@ -12,7 +12,7 @@ use Rattle.model.specs.declared.Line.{Line}
 use Rattle.model.specs.declared.Outcome.{Outcome}
 use Rattle.model.specs.Ranges.{valid}
 use Rattle.model.specs.Record.{powerOn}
-use Rattle.model.specs.Run.{historyFrom}
+use Rattle.model.specs.Run.{historyBy, historyFrom}
 use Rattle.model.specs.Text.{lineEnd, parts, firstPart}
 use Rattle.model.specs.Sheet.{isLine, commandIn, noLine, lineOf, sheetAccepted, bodyVerdict, sheetVerdict}
 use Rattle.model.specs.Sheet.{commandsOf, commandsIn}
@@ -110,7 +110,7 @@ module _ {s before after : List ℕ} {from : ℕ} {e : Engine} {k at end : ℕ} 
       resultsBehind = resultsFrom (o .engine) (k + 1) (drop (line-end + 1) s)
 
       results-here : resultsFrom e k (drop at s) ≡ resultHere ++ resultsBehind
-      unfolding historyFrom
+      unfolding historyBy
       results-here = rw (commands-here, stepped .is)
 
       pub line-room : end + length resultHere ≤ length after
@@ -130,5 +130,5 @@ module _ {s before after : List ℕ} {from : ℕ} {e : Engine} {k at end : ℕ} 
 pub run-end : {s before after : List ℕ} {from : ℕ} {e : Engine} {k at end : ℕ} → RanTo s before from after e k at end
     → length s ≤ at
     → Written before after from (commandResults s) end
-unfolding historyFrom
+unfolding historyBy
 run-end {s} run over = rest-none (rw (drop-of-length-le s over) at (run .rest))

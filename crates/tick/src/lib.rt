@@ -128,7 +128,8 @@ pub fn store_timestamps(mut e: Engine, c: Command) -> Engine
     requires { ⌜ Ticks e c ⌝ }
     ensures { λ r. ⌜ r ≡ timestampsStored e c ⌝ }
 {
-    let step = clock::step_by(e.clock, clock::cycle_amount(e.steering));
+    let steered = clock::steer(e.steering);
+    let step = clock::step_by(e.clock, steered.amount);
     let fifo1 = fifo::capture(e.fifo1, e.clock, step, c.a);
     let fifo2 = fifo::capture(e.fifo2, e.clock, step, c.b);
     let fifo3 = fifo::capture(e.fifo3, e.clock, step, c.c);

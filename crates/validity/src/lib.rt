@@ -45,14 +45,14 @@ fn clock_ok(k: Clock) -> bool
     )
 }
 
-// PERIOD or a running PER_ADJ: 40 bits, with NS not 0.
+// PERIOD or the PER_ADJ of an adjustment: 40 bits, with NS not 0.
 fn amount_ok(x: u64) -> bool
     ensures { λ r. ⌜ r ≡ amountOk x ⌝ }
 {
     both(0x1_0000_0000 <= x, x < 0x100_0000_0000)
 }
 
-// Idle and zero, or running.
+// None and zero, or with cycles left.
 fn adjustment_ok(j: Adjustment) -> bool
     ensures { λ r. ⌜ r ≡ adjustmentOk j ⌝ }
 {
@@ -62,10 +62,21 @@ fn adjustment_ok(j: Adjustment) -> bool
     both(amount_ok(j.amount), j.cycles < 0x100_0000)
 }
 
+// PERIOD, the running adjustment and the one that waits, of which there is none while none runs.
 fn steering_ok(s: Steering) -> bool
     ensures { λ r. ⌜ r ≡ steeringOk s ⌝ }
 {
-    both(amount_ok(s.period), adjustment_ok(s.adjustment))
+    if s.waiting.cycles == 0 {
+        return both(
+            amount_ok(s.period),
+            both(s.waiting.amount == 0, adjustment_ok(s.adjustment)),
+        );
+    }
+    let behind = both(s.adjustment.cycles != 0, adjustment_ok(s.waiting));
+    both(
+        amount_ok(s.period),
+        both(adjustment_ok(s.adjustment), behind),
+    )
 }
 
 // Every bit that a timestamp has set: 0 just for the zero timestamp.

@@ -4,7 +4,7 @@
 //!     compare [COMMANDS [SEED]]
 use reference::ledger::Ledger;
 use reference::random::Random;
-use reference::tally::Runs;
+use reference::tally::{Runs, Waits};
 use reference::{sheet, tuned_sheet};
 use std::sync::atomic::{AtomicU64, Ordering};
 
@@ -39,17 +39,20 @@ fn main() {
     let mut out = vec![0; room + 16];
     let (mut told, mut text) = (Vec::new(), Vec::new());
     let mut answers = [0u64; 16];
-    let mut runs = Runs::default();
+    let (mut runs, mut waits) = (Runs::default(), Waits::default());
     let (mut commands, mut sheets) = (0u64, 0u64);
     while commands < most {
         SEED.store(random.0, Ordering::Relaxed);
         let s = random.sheet();
         let mut ledger = Ledger::new();
+        let mut before = 0;
         let expected = sheet::results_seen(&s, |e, c, o| {
             ledger.told(c, o);
             ledger.holds(e.shown(), e.remainder());
             answers[o.answer as usize] += 1;
             runs.told(c, o);
+            waits.told(c, o, before, e.adjustments());
+            before = e.adjustments();
             commands += 1;
         });
         if let Err((_, n)) = sheet::commands(&s) {
@@ -69,4 +72,5 @@ fn main() {
     println!("{commands} commands in {sheets} sheets, seed {seed}: every byte equal, the ledger agrees");
     println!("answers 0 to 15: {answers:?}");
     println!("{runs}");
+    println!("{waits}");
 }

@@ -5,8 +5,8 @@
 //!     lent [COMMANDS [SEED]]
 use reference::engine::{Command, Engine, Outcome};
 use reference::random::Random;
-use reference::record::{Record, NUMBERS};
-use reference::tally::Runs;
+use reference::record::{Adjustment, Record, CONDITIONS, NUMBERS};
+use reference::tally::{Runs, Waits};
 use std::sync::atomic::{AtomicU64, Ordering};
 
 /// The seed from which the present engine's life is made.
@@ -30,21 +30,24 @@ struct Counts {
     valid: u64,
     answers: [u64; 16],
     runs: Runs,
+    waits: Waits,
     /// calls of `lendaru_run`
     called: u64,
     /// malformed records by the condition of number 4 that they meet, where they meet only one
-    faults: [u64; 12],
+    faults: [u64; CONDITIONS],
 }
 
 /// Damages some numbers, anywhere in the record; every second one outside the FIFOs, which are most of it.
 fn damage(random: &mut Random, record: &mut Record) {
-    if random.chance(10) {
-        return pend(random, record);
+    match random.below(10) {
+        0 => return pend(random, record),
+        1 => return wait(random, record),
+        _ => {}
     }
     let numbers = record.numbers();
     for _ in 0..random.one_of(&[1, 1, 1, 2, 5]) {
         let at = match random.below(4) {
-            0 => random.below(7),
+            0 => random.below(9),
             1 => NUMBERS as u64 - 1 - random.below(25),
             _ => random.below(NUMBERS as u64),
         } as usize;
@@ -69,6 +72,16 @@ fn pend(random: &mut Random, record: &mut Record) {
     g.pending.remainder = (exact + random.below(3)).saturating_sub(1);
 }
 
+/// Lets the running adjustment wait, behind itself or behind none, or takes it from before the waiting one.
+fn wait(random: &mut Random, record: &mut Record) {
+    let s = &mut record.steering;
+    match random.below(3) {
+        0 => s.waiting = s.adjustment,
+        1 => std::mem::swap(&mut s.adjustment, &mut s.waiting),
+        _ => s.adjustment = Adjustment::default(),
+    }
+}
+
 /// A command by the library: a run by the function that does nothing else, where it is asked for.
 fn execute(record: &mut Record, c: &Command, by_run: bool) -> Outcome {
     // SAFETY: the record is lent for the call alone.
@@ -91,7 +104,7 @@ fn refused(record: &Record, c: &Command, by_run: bool, counts: &mut Counts) -> b
     assert_eq!(lent, *record, "a malformed record is left as it was, {c:?}");
     let faults = record.faults();
     if faults.iter().filter(|&&fault| fault).count() == 1 {
-        (0..12).for_each(|i| counts.faults[i] += u64::from(faults[i]));
+        (0..CONDITIONS).for_each(|i| counts.faults[i] += u64::from(faults[i]));
     }
     counts.malformed += 1;
     counts.answers[4] += 1;
@@ -106,8 +119,7 @@ fn live(random: &mut Random, counts: &mut Counts) {
     assert_eq!(lent, engine.record(), "the power-on record");
     let end = counts.commands + 1000 + random.below(5000);
     while counts.commands < end {
-        let c = random.command_at(lent.clock.seconds, lent.clock.nanoseconds);
-        for _ in 0..random.times(&c, 20) {
+        for c in random.commands_at(&engine, 20) {
             let by_run = c.op == 9 && c.f[1..] == [0; 7] && random.chance(50);
             counts.called += u64::from(by_run);
             counts.commands += 1;
@@ -123,11 +135,13 @@ fn live(random: &mut Random, counts: &mut Counts) {
                 lent = damaged;
                 engine = Engine::from_record(&lent);
             }
+            let before = engine.adjustments();
             let expected = engine.execute(&c);
             assert_eq!(execute(&mut lent, &c, by_run), expected, "the reply to {c:?} on {damaged:?}");
             assert_eq!(lent, engine.record(), "the record after {c:?} on {damaged:?}");
             counts.answers[expected.answer as usize] += 1;
             counts.runs.told(&c, &expected);
+            counts.waits.told(&c, &expected, before, engine.adjustments());
         }
     }
 }
@@ -147,10 +161,11 @@ fn main() {
         live(&mut random, &mut counts);
         lives += 1;
     }
-    let Counts { commands, malformed, valid, answers, runs, called, faults } = counts;
+    let Counts { commands, malformed, valid, answers, runs, waits, called, faults } = counts;
     println!("{commands} commands on {lives} lent records, seed {seed}: every reply and every record equal");
     println!("damaged before a command: {malformed} malformed, {valid} still valid");
     println!("answers 0 to 15: {answers:?}");
     println!("{runs}; by lendaru_run {called}, malformed records included");
+    println!("{waits}");
     println!("malformed by one condition of number 4 alone, in its order: {faults:?}");
 }

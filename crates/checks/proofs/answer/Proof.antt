@@ -51,7 +51,7 @@ returns-2 c =
       late .start-ahead .ensures,
       late .before .generator-free .ensures,
       late .before .before .implies .ensures,
-      early .adjustment-free .ensures,
+      early .waiting-free .ensures,
       early .before .count-ok .ensures,
       early .before .before .amount-ok .ensures,
       early .before .before .before .time-ok .ensures,

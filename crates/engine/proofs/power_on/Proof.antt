@@ -9,8 +9,8 @@ unfolding powerOn
 returns c =
     simp (
       c .no-words .ensures,
-      c .before .no-adjustment .ensures,
-      c .before .before .set-clock .ensures,
+      c .before .set-clock .ensures,
+      c .before .before .no-adjustment .ensures,
       c .before .before .before .idle-generator .ensures,
       c .before .before .before .before .empty-fifo .ensures,
     )

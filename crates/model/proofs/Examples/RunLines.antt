@@ -4,18 +4,11 @@ use Prim.Native.Nat.{ℕ}
 use mathlib.Core.List.{List, [], _∷_, _++_}
 use Rattle.model.specs.declared.Command.{Command}
 use Rattle.model.specs.RunLine.{runLine}
-use Rattle.model.proofs.Examples.Runs.{Example, line, tick, load, write, read, arm, answers, values}
+use Rattle.model.proofs.Examples.Runs.{Example, line, tick, load, write, read, arm, interrupts, answers, gives}
 
 -- generator 2 from 0 s and some ns, at an interval of 256 ns, marked
 abbrev arm2 : ℕ → ℕ → Command
 arm2 ns count = record { op = 3; a = 2; b = 0; c = ns; d = 256; e = 0; f = 1; g = count; h = 1 }
-
--- what a command behind others gives
-abbrev gives : List Command → Command → List ℕ → Example
-gives before c v = record { found = values (before ++ c ∷ []); stated = v }
-
-abbrev interrupts : Command
-interrupts = line 5 0 0 0 0 0
 
 -- generator 1 from 0 s 3 ns, 256 + 1/3 ns, count 4: ticks 1, 33, 65, 97, eighths 3, 3, 3, 4
 abbrev thirds : List Command

@@ -1,6 +1,6 @@
 -- Commands as examples write them, and what a run from power-on gives.
 use Prim.Native.Nat.{ℕ}
-use mathlib.Core.List.{List, [], _∷_, map}
+use mathlib.Core.List.{List, [], _∷_, _++_, map}
 use Rattle.model.specs.declared.Command.{Command}
 use Rattle.model.specs.Run.{Entry, history}
 
@@ -28,6 +28,9 @@ write selector = line 2 selector 8 0 0 0
 abbrev pub read : ℕ → Command
 read selector = line 2 16 selector 0 0 0
 
+abbrev pub interrupts : Command
+interrupts = line 5 0 0 0 0 0
+
 -- generator 1 from 0 s and some ns, at an interval of w + n/d ns
 abbrev pub arm : ℕ → ℕ → ℕ → ℕ → ℕ → Command
 arm ns w n d count = record { op = 3; a = 1; b = 0; c = ns; d = w; e = n; f = d; g = count; h = 0 }
@@ -43,3 +46,7 @@ lastValues (x ∷ y ∷ xs) = lastValues (y ∷ xs)
 
 unfoldable pub values : List Command → List ℕ
 values cs = lastValues (history cs)
+
+-- what a command behind others gives
+abbrev pub gives : List Command → Command → List ℕ → Example
+gives before c v = record { found = values (before ++ c ∷ []); stated = v }

@@ -7,11 +7,12 @@ use lib.ListN.{length, replicate}
 use lib.Dec.{eqb}
 use Rattle.model.specs.declared.Command.{Command}
 use Rattle.model.specs.Clock.{shown}
+use Rattle.model.specs.Record.{recordVersion}
 use Rattle.model.specs.Ops.{ops}
 use Rattle.model.specs.Checks.{lastNumber}
 use Rattle.model.specs.Run.{Entry, engineAfter, history}
 use Rattle.model.specs.Text.{bytes}
-use Rattle.model.specs.Sheet.{sheetVerdict}
+use Rattle.model.specs.Sheet.{sheetVersion, sheetVerdict}
 use Rattle.model.specs.Results.{results}
 use Rattle.model.proofs.Examples.Runs.{Example, line, tick, input, load, write, read, arm, answers, values}
 
@@ -99,6 +100,8 @@ starred =
     -- Not starred: the ops are 0 to 9, and the table of checks ends with 15.
     ∷ record { found = length ops ∷ lastNumber ∷ []; stated = 10 ∷ 15 ∷ [] }
     ∷ record { found = answers (line 9 1 0 0 0 0 ∷ line 10 1 0 0 0 0 ∷ []); stated = 0 ∷ 5 ∷ [] }
+    -- Not starred: the versions of the sheet format (run lines counted it on) and of the record (the waiting adjustment).
+    ∷ record { found = sheetVersion ∷ recordVersion ∷ []; stated = 2 ∷ 2 ∷ [] }
     -- Not starred: each input has its FIFO and its selector (eighths 1, 3 and 5 of 8 ns).
     ∷ record {
       found =

@@ -12,7 +12,7 @@ use Rattle.model.specs.Clock.{shown, endOfTime}
 use Rattle.model.specs.Record.{powerOn}
 use Rattle.model.specs.Ranges.{valid, generatorOk}
 use Rattle.model.specs.Execute.{execute}
-use Rattle.model.specs.Run.{engineFrom, historyFrom, engineAfter, entryOf}
+use Rattle.model.specs.Run.{entryOf, engineBy, historyBy, engineFrom, historyFrom, engineAfter}
 use Rattle.model.specs.Fractions.{over, plus, Same, NotAbove, Below}
 use Rattle.model.specs.Ledger.{Edge, Order, none, standing, Ledger, openLedger}
 use Rattle.model.specs.Bookings.{told, ledgerFrom, ledgerAfter}
@@ -28,7 +28,7 @@ use Rattle.model.proofs.Follow.OnCommand.{execute-agrees}
 
 run-agrees : (cs : List Command) (e : Engine) (l : Ledger) → valid e ≡ true → Agrees e l
     → Agrees (engineFrom e cs) (ledgerFrom l (historyFrom e cs))
-unfolding engineFrom historyFrom ledgerFrom
+unfolding engineBy historyBy ledgerFrom
 run-agrees [] e l v h = h
 run-agrees (c ∷ cs) e l v h =
     run-agrees cs (execute e c .engine) (told l (entryOf c (execute e c))) (execute-valid e c v)
@@ -43,6 +43,7 @@ power-on-agrees = record {
     periodIs = record { den = omega arith; unit = omega arith; value = refl };
     owes = refl;
     adjustIs = λ n. record { den = omega arith; unit = omega arith; value = refl };
+    waitsIs = refl;
   };
   generator1 = (refl, refl);
   generator2 = (refl, refl);

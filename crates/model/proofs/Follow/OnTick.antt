@@ -1,34 +1,33 @@
--- An accepted tick: the clock moves by the amount that the ledger adds, the adjustment loses the cycle that the
--- ledger takes off, and each generator returns the edge that its order has there, if any.
+-- An accepted tick: the clock moves by the amount that the ledger adds, the adjustment loses the cycle that the ledger
+-- takes off, with the last one what waits has its turn on both sides, and each generator returns the edge that its
+-- order has there, if any.
 use Prim.Native.Nat.{ℕ, _+_, _-_, _^_}
-use mathlib.Core.Path.{_≡_, refl, sym, _∙_}
+use mathlib.Core.Path.{_≡_, refl, sym, ap, _∙_}
 use mathlib.Core.List.{List, _++_, append-nil}
-use mathlib.Core.Bool.{Bool, true, false, cond, true≢false}
+use mathlib.Core.Bool.{Bool, true, false, cond}
 use native.Mathlib.Omega.{arith}
 use lib.Dec.{eqb}
-use borrow.Author.Tests.{ne-eqb, leb-true, leb-false}
+use borrow.Author.Tests.{eqb-false, ne-eqb}
 use Rattle.model.specs.declared.Engine.{Engine}
 use Rattle.model.specs.declared.Command.{Command}
 use Rattle.model.specs.declared.Generator.{Generator}
-use Rattle.model.specs.declared.Adjustment.{Adjustment}
 use Rattle.model.specs.declared.Steering.{Steering}
 use Rattle.model.specs.declared.Outcome.{Outcome}
-use Rattle.model.specs.Clock.{shown, cycleAmount, remainderBy, isOver, spent, steeringAfter}
+use Rattle.model.specs.Clock.{shown, cycleAmount, remainderBy, oneLess, lastCycle, takenUp, steeringAfter}
 use Rattle.model.specs.Generator.{isRunning, placed, generated, isDue}
 use Rattle.model.specs.Outcome.{accepted}
 use Rattle.model.specs.Tick.{tickStep, tickEngine, tickValues}
 use Rattle.model.specs.Ranges.{valid, generatorOk}
 use Rattle.model.specs.Run.{Entry, entryOf}
-use Rattle.model.specs.Ledger.{LedgerSteering, Edge, Order, none, standing, Ledger, ordered, cycleTaken}
-use Rattle.model.specs.Ledger.{ledgerTicked, ledgerTicks, ledgerEdges}
+use Rattle.model.specs.Ledger.{Waiting, noneWaits, waits, LedgerSteering, Edge, Order, none, standing, Ledger}
+use Rattle.model.specs.Ledger.{ordered, turnOf, cycleTaken, ledgerTicked, ledgerTicks, ledgerEdges}
 use Rattle.model.specs.Bookings.{codeFor, edgesIn, booked, told}
-use Rattle.model.proofs.Laws.Tests.{split}
 use Rattle.model.proofs.Laws.Ranges.{Valid, valid-parts, clock-in}
 use Rattle.model.proofs.Laws.Clock.{exact-ticked, shown-ticked, step-left, remainder-low}
 use Rattle.model.proofs.Laws.Fractions.{Is, is-plus}
 use Rattle.model.proofs.Laws.Tick.{tick-step-bounds}
 use Rattle.model.proofs.Follow.Tick.{TickIn, tick-standing}
-use Rattle.model.proofs.Follow.Agrees.{Follows, Steers, Agrees, after}
+use Rattle.model.proofs.Follow.Agrees.{Follows, Waits, Steers, Agrees, after}
 
 -- the amount ordered is the amount of the cycle
 ordered-is : (s : Steering) (o : LedgerSteering) → Steers s o → Is (ordered o) (cycleAmount s) (2 ^ 32)
@@ -70,30 +69,50 @@ follows-tick none edges g {a} {s} t n x told ok h =
     rw (code, q .1, append-nil) h
 follows-tick (standing start interval count) edges g t n x told ok h = tick-standing t h n x told ok
 
--- the adjustment loses a cycle, and keeps its amount while it has one left
-spent-cycles : (j : Adjustment) → spent j .cycles ≡ j .cycles - 1
-unfolding spent
-spent-cycles j =
-    split (λ (x : Adjustment). x .cycles ≡ j .cycles - 1) (isOver j)
-    (λ z. omega (arith, leb-true))
-    (λ z. refl)
+-- the last cycle: what waits becomes the running adjustment on one side, PER_ADJ and the cycles owed on the other
+turn-steers : (s : Steering) (o : LedgerSteering) (w : Waiting) → Is (o .period) (s .period) (2 ^ 32)
+    → Waits w (s .waiting)
+    → Steers (takenUp s) (turnOf w o)
+turn-steers s o noneWaits p z = record {
+  periodIs = p;
+  owes = sym z;
+  adjustIs = λ n. absurd (eqb-false (s .waiting .cycles) 0 n z);
+  waitsIs = refl;
+}
+turn-steers s o (waits amount count) p h = record {
+  periodIs = p;
+  owes = h .0;
+  adjustIs = λ n. h .1;
+  waitsIs = refl;
+}
 
-spent-amount : (j : Adjustment) → eqb (spent j .cycles) 0 ≡ false
-    → (eqb (j .cycles) 0 ≡ false) × (spent j .amount ≡ j .amount)
-unfolding spent
-spent-amount j =
-    split (λ (x : Adjustment). eqb (x .cycles) 0 ≡ false → (eqb (j .cycles) 0 ≡ false) × (x .amount ≡ j .amount))
-    (isOver j)
-    (λ z n. absurd (true≢false n))
-    (λ z n. (ne-eqb (j .cycles) 0 (λ q. omega (arith, leb-false)), refl))
+-- any other cycle: one less is left, of the same amount
+less-steers : (s : Steering) (o : LedgerSteering) → Steers s o
+    → Steers (record { period = s .period; adjustment = oneLess (s .adjustment); waiting = s .waiting })
+    (record { period = o .period; adjust = o .adjust; owed = o .owed - 1; waiting = o .waiting })
+less-steers s o h = record {
+  periodIs = h .periodIs;
+  owes = ap (λ (n : ℕ). n - 1) (h .owes);
+  adjustIs = λ n.
+      let left = eqb-false (s .adjustment .cycles - 1) 0 n in
+      h .adjustIs (ne-eqb (s .adjustment .cycles) 0 (λ z. left (omega arith)));
+  waitsIs = h .waitsIs;
+}
 
 steers-tick : (s : Steering) (o : LedgerSteering) → Steers s o → Steers (steeringAfter s) (cycleTaken o)
-unfolding steeringAfter
-steers-tick s o h = record {
-  periodIs = h .periodIs;
-  owes = rw (h .owes) (sym (spent-cycles (s .adjustment)));
-  adjustIs = λ n. let q = spent-amount (s .adjustment) n in rw (q .1) (h .adjustIs (q .0));
-}
+unfolding steeringAfter lastCycle
+steers-tick s o h =
+    let same : eqb (o .owed) 1 ≡ eqb (s .adjustment .cycles) 1 = ap (λ (n : ℕ). eqb n 1) (h .owes) in
+    rw same (by (eqb (s .adjustment .cycles) 1))
+  where
+    by : (b : Bool)
+        → Steers
+        (cond b (takenUp s)
+        (record { period = s .period; adjustment = oneLess (s .adjustment); waiting = s .waiting }))
+        (cond b (turnOf (o .waiting) o)
+        (record { period = o .period; adjust = o .adjust; owed = o .owed - 1; waiting = o .waiting }))
+    by true = turn-steers s o (o .waiting) (h .periodIs) (h .waitsIs)
+    by false = less-steers s o h
 
 -- one tick, whose codes an entry has
 pub tick-agrees : (e : Engine) (l : Ledger) (c : Command) (x : Entry) → Valid e → Agrees e l

@@ -7,22 +7,24 @@ use lib.Dec.{eqb}
 use lib.ListN.{List·getD-eq-default}
 use Rattle.model.specs.declared.Engine.{Engine}
 use Rattle.model.specs.declared.Command.{Command}
+use Rattle.model.specs.declared.Adjustment.{Adjustment}
+use Rattle.model.specs.declared.Steering.{Steering}
 use Rattle.model.specs.declared.Words.{Words}
 use Rattle.model.specs.Words.{noWords, secondsIn, nanosecondsIn, amountIn, countIn}
-use Rattle.model.specs.Clock.{exact, clockSet}
+use Rattle.model.specs.Clock.{exact, adjustedBy, clockSet}
 use Rattle.model.specs.Fifo.{popped}
 use Rattle.model.specs.Record.{withWords, fifo, withFifo}
 use Rattle.model.specs.Outcome.{accepted}
-use Rattle.model.specs.Orders.{loadedWords, timeWritten, periodWritten, adjustWritten, written}
+use Rattle.model.specs.Orders.{loadedWords, timeWritten, periodWritten, adjustmentIn, adjustWritten, written}
 use Rattle.model.specs.Orders.{readWords, readEngine, commanded}
 use Rattle.model.specs.Fractions.{over}
 use Rattle.model.specs.Ledger
-use Rattle.model.specs.Ledger.{Ledger}
+use Rattle.model.specs.Ledger.{LedgerSteering, Ledger}
 use Rattle.model.specs.Bookings.{booked, told}
 use Rattle.model.proofs.Laws.Tests.{split}
 use Rattle.model.proofs.Laws.Checks.{by-write}
 use Rattle.model.proofs.Laws.Fractions.{Is, is-over, is-finer}
-use Rattle.model.proofs.Follow.Agrees.{Agrees, after}
+use Rattle.model.proofs.Follow.Agrees.{Steers, Agrees, after}
 
 -- new words on both sides
 words-agree : (e : Engine) (l : Ledger) (w : Words) → Agrees e l → Agrees (withWords e w) (Ledger.ledgerWords l w)
@@ -51,8 +53,54 @@ module _ (e : Engine) (l : Ledger) (h : Agrees e l) where
   period-agrees : Agrees (periodWritten e) (Ledger.ledgerPeriod l)
   period-agrees = let period = amount-written in search
 
+  -- an adjust write runs at once, or waits, on both sides
+  adjust-steers : Steers (adjustedBy (e .steering) (adjustmentIn (e .words)))
+      (Ledger.adjustOrdered (l .steering) (Ledger.amountWritten l) (countIn (l .words)))
+  unfolding adjustedBy
+  adjust-steers =
+      let same : eqb (l .steering .owed) 0 ≡ eqb (e .steering .adjustment .cycles) 0 =
+      ap (λ (n : ℕ). eqb n 0) (h .steering .owes)
+      in
+      rw same (by (eqb (e .steering .adjustment .cycles) 0))
+    where
+      s : Steering
+      s = e .steering
+
+      o : LedgerSteering
+      o = l .steering
+
+      j : Adjustment
+      j = adjustmentIn (e .words)
+
+      count : ℕ
+      count = countIn (l .words)
+
+      by : (b : Bool)
+          → Steers
+          (cond b (record { period = s .period; adjustment = j; waiting = s .waiting })
+          (record { period = s .period; adjustment = s .adjustment; waiting = j }))
+          (cond b (record { period = o .period; adjust = Ledger.amountWritten l; owed = count; waiting = o .waiting })
+          (record {
+            period = o .period;
+            adjust = o .adjust;
+            owed = o .owed;
+            waiting = Ledger.waits (Ledger.amountWritten l) count;
+          }))
+      by true = record {
+        periodIs = h .steering .periodIs;
+        owes = ap countIn (h .words);
+        adjustIs = λ n. amount-written;
+        waitsIs = h .steering .waitsIs;
+      }
+      by false = record {
+        periodIs = h .steering .periodIs;
+        owes = h .steering .owes;
+        adjustIs = h .steering .adjustIs;
+        waitsIs = (ap countIn (h .words), amount-written);
+      }
+
   adjust-agrees : Agrees (adjustWritten e) (Ledger.ledgerAdjust l)
-  adjust-agrees = let adjust = amount-written in let owed = ap countIn (h .words) in search
+  adjust-agrees = let steering = adjust-steers in search
 
   write-agrees : (a : ℕ) → Agrees (written e a) (Ledger.ledgerWritten l a)
   unfolding Ledger.ledgerWritten

@@ -43,7 +43,7 @@ pub record Accepted (e : Engine) (c : Command) : Type 0 where
   pub check9 : Checks.writesAmount c ≡ true → 1 ≤ Words.wholeIn (e .words)
   pub check9byte : Checks.writes 1 c ≡ true → Words.belowFrac (e .words) ≡ 0
   pub check10 : Checks.writes 2 c ≡ true → 1 ≤ Words.countIn (e .words)
-  pub check11 : Checks.writes 2 c ≡ true → e .steering .adjustment .cycles ≡ 0
+  pub check11 : Checks.writes 2 c ≡ true → e .steering .waiting .cycles ≡ 0
   pub check12 : Checks.isOp 3 c ≡ true → c .e < c .f
   pub check13 : Checks.isOp 3 c ≡ true → not (isRunning (Record.generator e (c .a))) ≡ true
   pub check14 : Checks.isOp 3 c ≡ true → shown (e .clock) ≤ (c .b * 1000000000 + c .c) * 256

@@ -1,20 +1,21 @@
 -- Laws of the clock. A tick divides remainder plus amount by 2^24 and loses nothing, so that the exact time grows by
 -- just the amount; the bounds of the step are those of the amount.
-use Prim.Native.Nat.{ℕ, _+_, _*_, _-_, _<_, _≤_, _^_}
+use Prim.Native.Nat.{ℕ, _+_, _*_, _<_, _≤_, _^_}
 use mathlib.Core.Path.{_≡_, refl}
-use mathlib.Core.Bool.{true, false}
+use mathlib.Core.Bool.{Bool, true, false}
 use native.Mathlib.Omega.{arith}
 use lib.Dec.{eqb}
-use borrow.Author.Tests.{leb-false, ne-eqb}
+use borrow.Author.Tests.{eqb-false}
 use Rattle.model.specs.declared.Clock.{Clock}
 use Rattle.model.specs.declared.Adjustment.{Adjustment}
 use Rattle.model.specs.declared.Steering.{Steering}
 use Rattle.model.specs.Clock.{shown, exact, endOfTime, clockAt, cycleAmount, stepBy, remainderBy, ticked}
-use Rattle.model.specs.Clock.{isOver, noAdjustment, spent, steeringAfter}
+use Rattle.model.specs.Clock.{noAdjustment, oneLess, lastCycle, steeringAfter, adjustedBy}
 use Rattle.model.specs.Ranges.{clockOk, steeringOk, adjustmentOk}
 use Rattle.model.proofs.Laws.Tests.{split}
-use Rattle.model.specs.Bounds.{ClockIn, AmountIn}
+use Rattle.model.specs.Bounds.{ClockIn, AmountIn, AdjustmentIn}
 use Rattle.model.proofs.Laws.Ranges.{clock-ok, steering-in, steering-ok, adjustment-in, adjustment-ok}
+use Rattle.model.proofs.Laws.Ranges.{no-adjustment-in}
 
 -- a step and what it leaves over make remainder plus amount
 pub step-left : (k : Clock) (amount : ℕ) → k .remainder + amount ≡ stepBy k amount * 16777216 + remainderBy k amount
@@ -56,24 +57,49 @@ unfolding cycleAmount
 cycle-amount-in s h =
     let f = steering-in s h in
     split AmountIn (eqb (s .adjustment .cycles) 0)
-    (λ e. f .0)
-    (λ e. adjustment-in (s .adjustment) (f .1) e .amount)
+    (λ e. f .period)
+    (λ e. adjustment-in (s .adjustment) (f .running) e .amount)
 
 no-adjustment-ok : adjustmentOk noAdjustment ≡ true
 unfolding adjustmentOk
 no-adjustment-ok = refl
 
-spent-ok : (j : Adjustment) → adjustmentOk j ≡ true → adjustmentOk (spent j) ≡ true
-unfolding spent
-spent-ok j h = split (λ (x : Adjustment). adjustmentOk x ≡ true) (isOver j) (λ e. no-adjustment-ok) one-less
+one-less-ok : (j : Adjustment) → adjustmentOk j ≡ true → (j .cycles ≡ 1 → ⊥) → adjustmentOk (oneLess j) ≡ true
+one-less-ok j h more = by (eqb (j .cycles) 0) refl
   where
-    one-less : isOver j ≡ false → adjustmentOk (record { amount = j .amount; cycles = j .cycles - 1 }) ≡ true
-    one-less e =
-        let a = adjustment-in j h (ne-eqb (j .cycles) 0 (λ z. omega (arith, leb-false))) in
+    by : (b : Bool) → eqb (j .cycles) 0 ≡ b → adjustmentOk (oneLess j) ≡ true
+    by true z = rw (no-adjustment-in j h z) no-adjustment-ok
+    by false z =
+        let a = adjustment-in j h z in
         adjustment-ok _
-        (record { amount = a .amount; some = omega (arith, leb-false); cycles = omega (arith, a .cycles) })
+        (record { amount = a .amount; some = omega (arith, a .some); cycles = omega (arith, a .cycles) })
 
--- the steering after a cycle is in range
+-- the steering after a cycle is in range: the one that waits was checked like the running one
 pub steering-after-ok : (s : Steering) → steeringOk s ≡ true → steeringOk (steeringAfter s) ≡ true
-unfolding steeringAfter
-steering-after-ok s h = let f = steering-in s h in steering-ok _ (f .0) (spent-ok (s .adjustment) (f .1))
+unfolding steeringAfter lastCycle
+steering-after-ok s h =
+    let f = steering-in s h in
+    let none = no-adjustment-ok in
+    split (λ (x : Steering). steeringOk x ≡ true) (eqb (s .adjustment .cycles) 1)
+    (λ z. steering-ok _ (search))
+    (λ z. let more = eqb-false (s .adjustment .cycles) 1 z in
+    steering-ok _
+    (record {
+      period = f .period;
+      running = one-less-ok (s .adjustment) (f .running) more;
+      waiting = f .waiting;
+      behind = λ q. f .behind (omega arith);
+    }))
+
+-- and so is the steering after an adjust write that finds the waiting place free
+pub adjusted-ok : (s : Steering) (j : Adjustment) → steeringOk s ≡ true → AdjustmentIn j → s .waiting .cycles ≡ 0
+    → steeringOk (adjustedBy s j) ≡ true
+unfolding adjustedBy
+adjusted-ok s j h new free =
+    let f = steering-in s h in
+    let ok = adjustment-ok j new in
+    split (λ (x : Steering). steeringOk x ≡ true) (eqb (s .adjustment .cycles) 0)
+    (λ z. steering-ok _ (search))
+    (λ z. let some = eqb-false (s .adjustment .cycles) 0 z in
+    let behind : s .adjustment .cycles ≡ 0 → j .cycles ≡ 0 = λ q. absurd (some q) in
+    steering-ok _ (search))

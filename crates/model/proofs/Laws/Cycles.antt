@@ -1,23 +1,19 @@
--- The clock and the steering after n cycles, by formula. The exact time is a sum, which one more cycle's amount
--- continues; an adjustment counts down to nothing, and sets TAC once, where its count is met.
-use Prim.Native.Nat.{ℕ, suc, _+_, _*_, _-_, _/_, _%_, _≤_, _<_, _^_, min}
-use mathlib.Core.Path.{_≡_, refl, sym}
-use mathlib.Core.Bool.{Bool, true, false, cond, and-false}
+-- The clock after n cycles, by formula. The exact time is a sum, which one more cycle's amount continues: in each phase
+-- that is the amount of the phase.
+use Prim.Native.Nat.{ℕ, suc, _+_, _*_, _-_, _/_, _%_, _≤_, _^_, min}
+use mathlib.Core.Path.{_≡_, refl}
+use mathlib.Core.Bool.{Bool, true, false, cond}
 use native.Mathlib.Nat.{mul-le-mul-right}
-use native.Mathlib.Decide.{decLe}
 use native.Mathlib.Omega.{arith}
 use lib.Dec.{eqb, leb}
-use borrow.Author.Tests.{leb-true, leb-false, eq-eqb, ne-eqb, le-leb, lt-leb}
+use borrow.Author.Tests.{leb-true, leb-false, ne-eqb}
 use Rattle.model.specs.declared.Clock.{Clock}
 use Rattle.model.specs.declared.Adjustment.{Adjustment}
 use Rattle.model.specs.declared.Steering.{Steering}
 use Rattle.model.specs.Clock
-use Rattle.model.specs.Interrupts.{withBit}
-use Rattle.model.specs.Ranges.{adjustmentOk}
 use Rattle.model.specs.Bounds.{ClockIn}
-use Rattle.model.specs.Elapse.{amountOf, steeringBy, spentBy, endsWithin, latchedBy}
+use Rattle.model.specs.Elapse.{amountOf, spentBy, steeringBy}
 use Rattle.model.proofs.Laws.Tests.{split}
-use Rattle.model.proofs.Laws.Ranges.{no-adjustment-in}
 
 -- the clock at an exact time x: what a tick adds, it adds to x
 pub shown-on : (x amount : ℕ)
@@ -46,120 +42,105 @@ clock-start k h =
     let r : Clock.clockAtExact (Clock.exact k) .remainder ≡ k .remainder = omega arith in
     λ i. record { seconds = s i; nanoseconds = n i; fraction = f i; remainder = r i }
 
--- what the cycles bring: 0 at first, more with each cycle, by the amount of that cycle
+-- what the cycles bring: 0 at first
 pub amount-zero : (s : Steering) → amountOf s 0 ≡ 0
 unfolding amountOf
 amount-zero s =
-    let m : min 0 (s .adjustment .cycles) ≡ 0 = omega arith in
-    let d : 0 - s .adjustment .cycles ≡ 0 = omega arith in
-    rw (m, d) (omega arith)
+    let c = s .adjustment .cycles in
+    let d = s .waiting .cycles in
+    let first : min 0 c ≡ 0 = omega arith in
+    let second : min (0 - c) d ≡ 0 = omega arith in
+    let third : 0 - c - d ≡ 0 = omega arith in
+    rw (first, second, third) (omega arith)
+
+-- an adjustment with cycles left steers, and where none is left PERIOD does
+steers : (s : Steering) (j : Adjustment) (n : ℕ) → s .adjustment ≡ spentBy j n
+    → Clock.cycleAmount s ≡ cond (leb (j .cycles) n) (s .period) (j .amount)
+unfolding spentBy Clock.cycleAmount
+steers s j n is = rw is (by (leb (j .cycles) n) refl)
+  where
+    left : Adjustment
+    left = record { amount = j .amount; cycles = j .cycles - n }
+
+    by : (b : Bool) → leb (j .cycles) n ≡ b
+        → cond (eqb (cond b Clock.noAdjustment left .cycles) 0) (s .period) (cond b Clock.noAdjustment left .amount)
+        ≡ cond b (s .period) (j .amount)
+    by true e = refl
+    by false e = rw (ne-eqb (j .cycles - n) 0 (λ z. omega (arith, leb-false)))
+
+-- the amount of the cycle after n, by its phase
+amount-after : (s : Steering) (n : ℕ)
+    → Clock.cycleAmount (steeringBy s n)
+    ≡ cond (leb (s .adjustment .cycles) n)
+    (cond (leb (s .waiting .cycles) (n - s .adjustment .cycles)) (s .period) (s .waiting .amount))
+    (s .adjustment .amount)
+unfolding steeringBy
+amount-after s n = by (leb (s .adjustment .cycles) n) refl
+  where
+    over : Steering
+    over = record {
+      period = s .period;
+      adjustment = spentBy (s .waiting) (n - s .adjustment .cycles);
+      waiting = Clock.noAdjustment;
+    }
+
+    still : Steering
+    still = record { period = s .period; adjustment = spentBy (s .adjustment) n; waiting = s .waiting }
+
+    by : (b : Bool) → leb (s .adjustment .cycles) n ≡ b
+        → Clock.cycleAmount (cond b over still)
+        ≡ cond b (cond (leb (s .waiting .cycles) (n - s .adjustment .cycles)) (s .period) (s .waiting .amount))
+        (s .adjustment .amount)
+    by true e = steers over (s .waiting) (n - s .adjustment .cycles) refl
+    by false e = rw (steers still (s .adjustment) n refl, e)
+
+-- one cycle more: of a phase of c cycles of one amount, or of the course after it
+module _ (c amount : ℕ) (rest more : ℕ → ℕ) (law : (m : ℕ) → rest (suc m) ≡ rest m + more m) where
+  one-more : (n : ℕ)
+      → min (suc n) c * amount + rest (suc n - c)
+      ≡ min n c * amount + rest (n - c) + cond (leb c n) (more (n - c)) amount
+  one-more n = split Sum (leb c n) over still
+    where
+      Sum : ℕ → Type 0
+      Sum x = min (suc n) c * amount + rest (suc n - c) ≡ min n c * amount + rest (n - c) + x
+
+      over : leb c n ≡ true → Sum (more (n - c))
+      over e =
+          let l = leb-true c n e in
+          let m : min (suc n) c ≡ min n c = omega arith in
+          let d : suc n - c ≡ suc (n - c) = omega arith in
+          rw (m, d, law) (omega arith)
+
+      still : leb c n ≡ false → Sum amount
+      still e =
+          let l = leb-false c n e in
+          let m : min (suc n) c ≡ suc (min n c) = omega arith in
+          let d : suc n - c ≡ n - c = omega arith in
+          rw (m, d) (omega arith)
+
+-- each cycle brings the amount of the steering before it
+pub amount-suc : (s : Steering) (n : ℕ) → amountOf s (suc n) ≡ amountOf s n + Clock.cycleAmount (steeringBy s n)
+unfolding amountOf
+amount-suc s n =
+    rw amount-after
+    (one-more (s .adjustment .cycles) (s .adjustment .amount)
+    (λ m. min m (s .waiting .cycles) * s .waiting .amount + (m - s .waiting .cycles) * s .period)
+    (λ m. cond (leb (s .waiting .cycles) m) (s .period) (s .waiting .amount))
+    (one-more (s .waiting .cycles) (s .waiting .amount) (λ m. m * s .period) (λ m. s .period) (λ m. omega arith))
+    n)
+
+-- so more cycles bring no less
+phase-grows : (c amount : ℕ) (rest : ℕ → ℕ) → ((n m : ℕ) → n ≤ m → rest n ≤ rest m) → (n m : ℕ) → n ≤ m
+    → min n c * amount + rest (n - c) ≤ min m c * amount + rest (m - c)
+phase-grows c amount rest grows n m h =
+    let first : min n c ≤ min m c = omega arith in
+    let after : n - c ≤ m - c = omega arith in
+    omega (arith, mul-le-mul-right amount first, grows (n - c) (m - c) after)
 
 pub amount-grows : (s : Steering) (n m : ℕ) → n ≤ m → amountOf s n ≤ amountOf s m
 unfolding amountOf
-amount-grows s n m h =
-    let c = s .adjustment .cycles in
-    let adjusted : min n c ≤ min m c = omega arith in
-    let steady : n - c ≤ m - c = omega arith in
-    omega (arith, mul-le-mul-right (s .adjustment .amount) adjusted, mul-le-mul-right (s .period) steady)
-
-amount-after : (s : Steering) (n : ℕ)
-    → Clock.cycleAmount (steeringBy s n) ≡ cond (leb (s .adjustment .cycles) n) (s .period) (s .adjustment .amount)
-unfolding spentBy Clock.cycleAmount
-amount-after s n = by (leb (s .adjustment .cycles) n) refl
-  where
-    left : Adjustment
-    left = record { amount = s .adjustment .amount; cycles = s .adjustment .cycles - n }
-
-    by : (b : Bool) → leb (s .adjustment .cycles) n ≡ b
-        → Clock.cycleAmount (record { period = s .period; adjustment = cond b Clock.noAdjustment left })
-        ≡ cond b (s .period) (s .adjustment .amount)
-    by true e = refl
-    by false e = rw (ne-eqb (s .adjustment .cycles - n) 0 (λ z. omega (arith, leb-false)))
-
-one-more : (c a p n : ℕ) → min (suc n) c * a + (suc n - c) * p ≡ min n c * a + (n - c) * p + cond (leb c n) p a
-one-more c a p n = split Sum (leb c n) over still
-  where
-    Sum : ℕ → Type 0
-    Sum x = min (suc n) c * a + (suc n - c) * p ≡ min n c * a + (n - c) * p + x
-
-    over : leb c n ≡ true → Sum p
-    over e =
-        let l = leb-true c n e in
-        let m : min (suc n) c ≡ min n c = omega arith in
-        let d : suc n - c ≡ suc (n - c) = omega arith in
-        rw (m, d) (omega arith)
-
-    still : leb c n ≡ false → Sum a
-    still e =
-        let l = leb-false c n e in
-        let m : min (suc n) c ≡ suc (min n c) = omega arith in
-        let d : suc n - c ≡ n - c = omega arith in
-        rw (m, d) (omega arith)
-
-pub amount-suc : (s : Steering) (n : ℕ) → amountOf s (suc n) ≡ amountOf s n + Clock.cycleAmount (steeringBy s n)
-unfolding amountOf
-amount-suc s n = rw amount-after (one-more (s .adjustment .cycles) (s .adjustment .amount) (s .period) n)
-
--- the adjustment after n cycles: over, or with cycles left
-module _ (j : Adjustment) (n : ℕ) where
-  spent-over : j .cycles ≤ n → spentBy j n ≡ Clock.noAdjustment
-  unfolding spentBy
-  spent-over h = rw (le-leb (j .cycles) n h)
-
-  spent-still : n < j .cycles → spentBy j n ≡ record { amount = j .amount; cycles = j .cycles - n }
-  unfolding spentBy
-  spent-still h = rw (lt-leb (j .cycles) n h)
-
-  ends-still : n < j .cycles → endsWithin j n ≡ false
-  unfolding endsWithin
-  ends-still h = rw (lt-leb (j .cycles) n h) (and-false (leb 1 (j .cycles)))
-
-pub spent-zero : (j : Adjustment) → adjustmentOk j ≡ true → spentBy j 0 ≡ j
-unfolding spentBy
-spent-zero j h =
-    let same : j .cycles - 0 ≡ j .cycles = omega arith in
-    split (λ (x : Adjustment). x ≡ j) (leb (j .cycles) 0)
-    (λ e. sym (no-adjustment-in j h (eq-eqb (j .cycles) 0 (omega (arith, leb-true)))))
-    (λ e. λ i. record { amount = j .amount; cycles = same i })
-
-pub spent-suc : (j : Adjustment) (n : ℕ) → Clock.spent (spentBy j n) ≡ spentBy j (suc n)
-unfolding Clock.spent
-spent-suc j n =
-    elim (decLe (j .cycles) n) [
-      | yes h ↦ rw (spent-over j n h, spent-over j (suc n) (omega arith))
-      | no h ↦ rw (spent-still j n (omega arith)) (last (decLe (j .cycles) (suc n)) (omega arith))
-    ]
-  where
-    less : j .cycles - n - 1 ≡ j .cycles - suc n
-    less = omega arith
-
-    last : Dec (j .cycles ≤ suc n) → n < j .cycles
-        → Clock.spent (record { amount = j .amount; cycles = j .cycles - n }) ≡ spentBy j (suc n)
-    last (yes h) l = rw (le-leb (j .cycles - n) 1 (omega arith), spent-over j (suc n) h)
-    last (no h) l = rw (lt-leb (j .cycles - n) 1 (omega arith), spent-still j (suc n) (omega arith), less)
-
--- TAC after n cycles, and in the next one
-pub ends-zero : (j : Adjustment) → endsWithin j 0 ≡ false
-unfolding endsWithin
-ends-zero j =
-    elim (decLe 1 (j .cycles)) [
-      | yes h ↦ ends-still j 0 h
-      | no h ↦ rw (lt-leb 1 (j .cycles) (omega arith))
-    ]
-
-pub latched-suc : (j : Adjustment) (n x : ℕ)
-    → cond (Clock.lastCycle (spentBy j n)) (withBit 0 (latchedBy j n x)) (latchedBy j n x) ≡ latchedBy j (suc n) x
-unfolding Clock.lastCycle endsWithin
-latched-suc j n x =
-    elim (decLe (j .cycles) n) [
-      | yes h ↦ rw (spent-over j n h, le-leb (j .cycles) n h, le-leb (j .cycles) (suc n) (omega arith))
-      | no h ↦
-          rw (spent-still j n (omega arith), ends-still j n (omega arith))
-          (last (decLe (j .cycles) (suc n)) (omega arith))
-    ]
-  where
-    last : Dec (j .cycles ≤ suc n) → n < j .cycles
-        → cond (eqb (j .cycles - n) 1) (withBit 0 x) x ≡ latchedBy j (suc n) x
-    last (yes h) l =
-        rw (eq-eqb (j .cycles - n) 1 (omega arith), le-leb 1 (j .cycles) (omega arith), le-leb (j .cycles) (suc n) h)
-    last (no h) l = rw (ne-eqb (j .cycles - n) 1 (λ z. omega arith), ends-still j (suc n) (omega arith))
+amount-grows s =
+    phase-grows (s .adjustment .cycles) (s .adjustment .amount)
+    (λ m. min m (s .waiting .cycles) * s .waiting .amount + (m - s .waiting .cycles) * s .period)
+    (phase-grows (s .waiting .cycles) (s .waiting .amount) (λ m. m * s .period)
+    (λ n m h. mul-le-mul-right (s .period) h))

@@ -21,6 +21,7 @@ use Rattle.model.specs.Elapse.{amountOf, steeringBy, elapsed}
 use Rattle.model.proofs.Laws.Ranges.{Valid, clock-in, steering-in, running-in}
 use Rattle.model.proofs.Laws.Interrupts.{placed-due}
 use Rattle.model.proofs.Laws.Cycles
+use Rattle.model.proofs.Laws.Phases
 
 -- the time shown after n cycles, in 1/256 ns
 unfoldable pub shownAfter : Engine → ℕ → ℕ
@@ -144,21 +145,26 @@ quiet-less e n m h q = record {
 pub elapsed-zero : (e : Engine) → Valid e → elapsed 0 e ≡ e
 unfolding elapsed
 elapsed-zero e v =
-    let j = steering-in (e .steering) (v .steering) .1 in
     let k : clockAtExact (exact (e .clock) + amountOf (e .steering) 0) ≡ e .clock =
     rw (Cycles.amount-zero, add-zero) (Cycles.clock-start (e .clock) (clock-in (e .clock) (v .clock)))
     in
-    rw (k, Cycles.spent-zero (e .steering .adjustment) j, Cycles.ends-zero)
+    rw (k, Phases.steering-zero (e .steering) (steering-in (e .steering) (v .steering)), Phases.ends-zero)
 
-module _ (e : Engine) (n : ℕ) (q : Quiet (suc n) e) where
+module _ (e : Engine) (v : Valid e) (n : ℕ) (q : Quiet (suc n) e) where
   none-due : (due (elapsed n e) (e .generator1) ≡ false) × (due (elapsed n e) (e .generator2) ≡ false)
   none-due = (due-elapsed e n _ ∙ q .generator1, due-elapsed e n _ ∙ q .generator2)
 
   pub tick-elapsed : tickEngine (elapsed n e) noInputs ≡ elapsed (suc n) e
-  unfolding elapsed latched steeringAfter
+  unfolding elapsed latched
   tick-elapsed =
+      let s = steering-in (e .steering) (v .steering) in
       quiet-tick (elapsed n e) (none-due .0) (none-due .1)
-      ∙ rw (Cycles.clock-on, exact-suc, Cycles.spent-suc, Cycles.latched-suc)
+      ∙ rw (
+        Cycles.clock-on,
+        exact-suc,
+        Phases.steering-suc (e .steering) s n,
+        Phases.latched-suc (e .steering) s n (e .interrupts .latched),
+      )
 
   pub values-elapsed : tickValues (elapsed n e) ≡ noWords
   unfolding elapsed
@@ -170,14 +176,14 @@ start : (e : Engine) → Valid e → ticks 0 e ≡ elapsed 0 e
 unfolding ticks
 start e v = sym (elapsed-zero e v)
 
-next : (e : Engine) (n : ℕ) → Quiet (suc n) e → ticks n e ≡ elapsed n e
+next : (e : Engine) → Valid e → (n : ℕ) → Quiet (suc n) e → ticks n e ≡ elapsed n e
     → ticks (suc n) e ≡ elapsed (suc n) e
 unfolding ticks
-next e n q h = rw h (tick-elapsed e n q)
+next e v n q h = rw h (tick-elapsed e v n q)
 
 pub ticks-elapsed : (e : Engine) → Valid e → (n : ℕ) → Quiet n e → ticks n e ≡ elapsed n e
 ticks-elapsed e v zero q = start e v
-ticks-elapsed e v (suc n) q = next e n q (ticks-elapsed e v n (quiet-less e n (suc n) (omega arith) q))
+ticks-elapsed e v (suc n) q = next e v n q (ticks-elapsed e v n (quiet-less e n (suc n) (omega arith) q))
 
 -- no tick of the n returned an edge exactly when the formula finds none
 abbrev pub Silent : ℕ → Engine → Type 0
@@ -185,7 +191,7 @@ Silent n e = (k : ℕ) → k < n → tickValues (ticks k e) ≡ noWords
 
 pub quiet-silent : (e : Engine) → Valid e → (n : ℕ) → Quiet n e → Silent n e
 quiet-silent e v n q k l =
-    rw (ticks-elapsed e v k (quiet-less e k n (omega arith) q)) (values-elapsed e k (quiet-less e (suc k) n l q))
+    rw (ticks-elapsed e v k (quiet-less e k n (omega arith) q)) (values-elapsed e v k (quiet-less e (suc k) n l q))
 
 not-behind : (g : Generator) (now : ℕ) → generatorOk g now ≡ true → isDueBy g now ≡ false
 unfolding isDueBy Generator.isBefore

@@ -16,7 +16,7 @@ use Rattle.model.specs.Ops.{performed}
 use Rattle.model.specs.Ranges.{valid}
 use Rattle.model.specs.Checks.{lastNumber, checks, answerOf, passes, Cause}
 use Rattle.model.specs.Execute.{execute}
-use Rattle.model.specs.Run.{engineFrom, engineAfter}
+use Rattle.model.specs.Run.{engineBy, engineFrom, engineAfter}
 use Rattle.model.proofs.Laws.Tests.{both-true, fails-answer, answer-fails, answer-none, none-answer}
 use Rattle.model.proofs.Laws.Tests.{answer-least, answer-most}
 use Rattle.model.proofs.Laws.Ranges.{valid-parts, words-in}
@@ -63,7 +63,7 @@ module _ (e : Engine) (c : Command) where
 
 -- from power-on every record is valid, so that number 4 never comes
 run-valid : (cs : List Command) (e : Engine) → valid e ≡ true → valid (engineFrom e cs) ≡ true
-unfolding engineFrom
+unfolding engineBy
 run-valid [] e v = v
 run-valid (c ∷ cs) e v = run-valid cs (execute e c .engine) (execute-valid e c v)
 

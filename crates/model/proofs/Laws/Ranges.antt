@@ -1,11 +1,11 @@
 -- The ranges of check 4 as facts, part by part, both ways: each test of a list is one comparison.
 use Prim.Native.Nat.{ℕ, _≤_, _^_}
-use mathlib.Core.Path.{_≡_}
-use mathlib.Core.Bool.{true, false, not}
+use mathlib.Core.Path.{_≡_, refl}
+use mathlib.Core.Bool.{Bool, true, false, _||_, not}
 use native.Mathlib.Omega.{arith}
 use lib.Dec.{eqb, leb, ltb}
 use borrow.Author.Tests.{not-false, eqb-true, not-true, ltb-true, leb-true, eqb-false, ltb-false, lt-ltb, le-leb}
-use borrow.Author.Tests.{ne-eqb, le-ltb}
+use borrow.Author.Tests.{eq-eqb, ne-eqb, le-ltb}
 use Rattle.model.specs.declared.Clock.{Clock}
 use Rattle.model.specs.declared.Adjustment.{Adjustment}
 use Rattle.model.specs.declared.Steering.{Steering}
@@ -17,7 +17,7 @@ use Rattle.model.specs.Clock.{shown, noAdjustment}
 use Rattle.model.specs.Generator.{isRunning, isBefore, idleGenerator}
 use Rattle.model.specs.Ranges
 use Rattle.model.specs.Bounds.{ClockIn, AmountIn, AdjustmentIn, RunningIn, WordsIn}
-use Rattle.model.proofs.Laws.Tests.{facts, all-of, both, both-true}
+use Rattle.model.proofs.Laws.Tests.{facts, all-of, both, both-true, or-left, or-right}
 
 pub clock-in : (k : Clock) → Ranges.clockOk k ≡ true → ClockIn k
 unfolding Ranges.clockOk
@@ -33,17 +33,39 @@ amount-in x h = let f = both (leb (2 ^ 32) x) (ltb x (2 ^ 40)) h in omega (arith
 pub amount-ok : (x : ℕ) → AmountIn x → Ranges.amountOk x ≡ true
 amount-ok x h = both-true _ _ (le-leb _ _ (h .low)) (lt-ltb _ _ (h .high))
 
-pub steering-in : (s : Steering) → Ranges.steeringOk s ≡ true
-    → AmountIn (s .period) × (Ranges.adjustmentOk (s .adjustment) ≡ true)
+-- PERIOD and both adjustments, of which one waits only behind a running one
+pub record SteeringIn (s : Steering) : Type 0 where
+  pub period : AmountIn (s .period)
+  pub running : Ranges.adjustmentOk (s .adjustment) ≡ true
+  pub waiting : Ranges.adjustmentOk (s .waiting) ≡ true
+  pub behind : s .adjustment .cycles ≡ 0 → s .waiting .cycles ≡ 0
+
+pub steering-in : (s : Steering) → Ranges.steeringOk s ≡ true → SteeringIn s
 unfolding Ranges.steeringOk
 steering-in s h =
-    let f = both (Ranges.amountOk (s .period)) (Ranges.adjustmentOk (s .adjustment)) h in
-    (amount-in (s .period) (f .0), f .1)
+    let f = facts (Ranges.steeringTests s) h in
+    record {
+      period = amount-in (s .period) (f .0);
+      running = f .1 .0;
+      waiting = f .1 .1 .0;
+      behind = λ z. eqb-true _ 0 (or-left (eqb (s .waiting .cycles) 0) _ (f .1 .1 .1 .0) (none z));
+    }
+  where
+    none : s .adjustment .cycles ≡ 0 → not (eqb (s .adjustment .cycles) 0) ≡ false
+    none z = rw (eq-eqb (s .adjustment .cycles) 0 z)
 
-pub steering-ok : (s : Steering) → AmountIn (s .period) → Ranges.adjustmentOk (s .adjustment) ≡ true
-    → Ranges.steeringOk s ≡ true
+pub steering-ok : (s : Steering) → SteeringIn s → Ranges.steeringOk s ≡ true
 unfolding Ranges.steeringOk
-steering-ok s p j = both-true _ _ (amount-ok (s .period) p) j
+steering-ok s h =
+    all-of (Ranges.steeringTests s)
+    (amount-ok (s .period) (h .period), (h .running, (h .waiting, (behind, tt))))
+  where
+    by : (b : Bool) → eqb (s .adjustment .cycles) 0 ≡ b → (eqb (s .waiting .cycles) 0 || not b) ≡ true
+    by true z = simp (eq-eqb (s .waiting .cycles) 0 (h .behind (eqb-true _ 0 z)))
+    by false z = or-right (eqb (s .waiting .cycles) 0) true refl
+
+    behind : Ranges.waitsBehind s ≡ true
+    behind = by (eqb (s .adjustment .cycles) 0) refl
 
 pub adjustment-in : (j : Adjustment) → Ranges.adjustmentOk j ≡ true → eqb (j .cycles) 0 ≡ false → AdjustmentIn j
 unfolding Ranges.adjustmentOk

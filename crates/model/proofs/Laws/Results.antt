@@ -17,7 +17,7 @@ use Rattle.model.specs.Words.{noWords}
 use Rattle.model.specs.Record.{powerOn}
 use Rattle.model.specs.Bounds.{WordsIn}
 use Rattle.model.specs.Execute.{execute}
-use Rattle.model.specs.Run.{historyFrom}
+use Rattle.model.specs.Run.{historyBy, historyFrom}
 use Rattle.model.specs.Text.{lineEnd, intoParts, parts, decimal}
 use Rattle.model.specs.Sheet.{firstLine, startsWith, isLine, refusedAt, sheetAccepted, bodyVerdict, sheetVerdict}
 use Rattle.model.specs.Sheet.{commandsIn}
@@ -60,7 +60,7 @@ result-line-length line answer v l a w =
 
 pub result-lines-length : (cs : List Command) (e : Engine) (k : ℕ) → k + length cs ≤ 10000
     → length (resultLines k (historyFrom e cs)) ≤ 38 * length cs
-unfolding historyFrom
+unfolding historyBy
 result-lines-length [] e k h = omega arith
 result-lines-length (c ∷ cs) e k h =
     let o = execute e c in

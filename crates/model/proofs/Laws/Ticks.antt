@@ -15,7 +15,7 @@ use Rattle.model.specs.Ranges.{valid}
 use Rattle.model.specs.Fields.{fieldTests, fieldsOk}
 use Rattle.model.specs.Checks.{checks, answerOf}
 use Rattle.model.specs.Execute.{execute}
-use Rattle.model.specs.Run.{engineFrom}
+use Rattle.model.specs.Run.{engineBy, engineFrom}
 use Rattle.model.proofs.Laws.Valid.{execute-valid}
 
 -- one op 0 without inputs
@@ -41,13 +41,13 @@ first-of-ticks zero e = refl
 first-of-ticks (suc n) e = ap (λ (x : Engine). tickEngine x noInputs) (first-of-ticks n e)
 
 none-executed : (e : Engine) → engineFrom e [] ≡ ticks 0 e
-unfolding engineFrom ticks
+unfolding engineBy ticks
 none-executed e = refl
 
 one-executed : (n : ℕ) (e : Engine) → valid e ≡ true → endsInTime e ≡ true
     → engineFrom (tickEngine e noInputs) (replicate n noInputs) ≡ ticks n (tickEngine e noInputs)
     → engineFrom e (noInputs ∷ replicate n noInputs) ≡ ticks (suc n) e
-unfolding engineFrom
+unfolding engineBy
 one-executed n e v near h =
     ap (λ (x : Engine). engineFrom x (replicate n noInputs)) (tick-left e v near) ∙ h ∙ first-of-ticks n e
 

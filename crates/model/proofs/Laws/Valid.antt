@@ -24,12 +24,13 @@ use Rattle.model.specs.Fields
 use Rattle.model.specs.Checks
 use Rattle.model.specs.Execute.{execute}
 use Rattle.model.proofs.Laws.Tests.{split, both-true, or-left, or-right}
-use Rattle.model.specs.Bounds.{AmountIn}
+use Rattle.model.specs.Bounds.{AmountIn, AdjustmentIn}
 use Rattle.model.proofs.Laws.Ranges.{Valid, valid-parts, parts-valid, clock-ok}
-use Rattle.model.proofs.Laws.Ranges.{steering-in, steering-ok, adjustment-ok, running-ok}
+use Rattle.model.proofs.Laws.Ranges.{steering-in, steering-ok, running-ok}
 use Rattle.model.specs.Bounds.{WordsIn}
 use Rattle.model.proofs.Laws.Ranges.{words-in}
 use Rattle.model.proofs.Laws.Words.{time-words-in, seconds-in-low, amount-words-in, count-low}
+use Rattle.model.proofs.Laws.Clock.{adjusted-ok}
 use Rattle.model.proofs.Laws.Fifo.{popped-ok, oldest-rising}
 use Rattle.model.proofs.Laws.Generator.{idle-generator-ok}
 use Rattle.model.proofs.Laws.Fields.{tick-fields, load-words, command-fields, arm-fields, mask-bits}
@@ -63,16 +64,25 @@ module _ (e : Engine) (c : Command) (o : c .op ≡ 2) (k : Accepted e c) where
 
   period-valid : c .a ≡ 1 → Valid (Orders.periodWritten e)
   period-valid a =
+      let f = steering-in (e .steering) (v .steering) in
       steering-valid e _ v
-      (steering-ok _ (amount-in (simp (writes 1 a))) (steering-in (e .steering) (v .steering) .1))
+      (steering-ok _
+      (record {
+        period = amount-in (simp (writes 1 a));
+        running = f .running;
+        waiting = f .waiting;
+        behind = f .behind;
+      }))
 
   adjust-valid : c .a ≡ 2 → Valid (Orders.adjustWritten e)
   adjust-valid a =
       let amount = amount-in (or-right (Checks.writes 1 c) _ (writes 2 a)) in
       let n = k .check10 (writes 2 a) in
+      let new : AdjustmentIn (Orders.adjustmentIn (e .words)) =
+      record { amount = amount; some = n; cycles = count-low (e .words) w }
+      in
       steering-valid e _ v
-      (steering-ok _ (steering-in (e .steering) (v .steering) .0)
-      (adjustment-ok _ (record { amount = amount; some = n; cycles = count-low (e .words) w })))
+      (adjusted-ok (e .steering) _ (v .steering) new (k .check11 (writes 2 a)))
 
   pub written-valid : Valid (Orders.written e (c .a))
   written-valid =

@@ -16,41 +16,42 @@ use Rattle.run.proofs.pass.Tie as tie
 from-second : (k : Clock) (x : ℕ) → k .seconds * second + (inSecond k + x) ≡ exact k + x
 from-second k x = omega arith
 
-amount-of-requires : tie.Need-amount-of-requires
-amount-of-requires c κs = (valid-parts _ (c .pre .on) .steering, c .pre .few)
+steer-by-requires : tie.Need-steer-by-requires
+steer-by-requires c κs = valid-parts _ (c .before .before .pre .0 .on) .steering
 
 add-clock-at : tie.Need-add-clock-at
 add-clock-at c =
-    let p = c .before .pre in
-    let v = valid-parts _ (p .on) in
+    let p = c .before .before .before .pre in
+    let v = valid-parts _ (p .0 .on) in
     let k = clock-in _ (v .clock) in
-    let low = amount-low _ (v .steering) _ (p .few) in
-    omega (arith, p .inHere, c .amount-of .ensures)
+    let low = amount-low _ (v .steering) _ (p .0 .few) in
+    omega (arith, p .0 .inHere, p .1)
 
 clock-at-requires : tie.Need-clock-at-requires
 clock-at-requires c κs =
-    let p = c .before .pre in
-    let v = valid-parts _ (p .on) in
+    let p = c .before .before .before .pre in
+    let v = valid-parts _ (p .0 .on) in
     let k = clock-in _ (v .clock) in
-    let low = amount-low _ (v .steering) _ (p .few) in
-    (k .seconds, omega (arith, p .inHere, c .amount-of .ensures))
+    let low = amount-low _ (v .steering) _ (p .0 .few) in
+    (k .seconds, omega (arith, p .0 .inHere, p .1))
 
 returns : tie.Need-returns
 unfolding elapsed latchOne
 returns c =
-    let latched = c .before .before .before in
-    let clock = latched .before .before .before in
+    let clock = c .before .before .before in
+    let latched = clock .before .before in
+    let p = latched .before .before .pre in
     simp (
+      clock .clock-at .ensures,
+      clock .before .steer-by .ensures,
       latched .latch .ensures,
       latched .before .ends-within .ensures,
-      latched .before .before .spend-by .ensures,
-      clock .clock-at .ensures,
-      clock .before .amount-of .ensures,
-      clock .before .before .pre .inHere,
+      p .0 .inHere,
+      p .1,
       from-second,
     )
 
 pub pass-spec : {M : Type 1} → statement M
 pass-spec =
     tie.close
-    (tie.spec amount-of-requires add-clock-at clock-at-requires (search needs) (search needs) (search needs) returns)
+    (tie.spec (search needs) (search needs) steer-by-requires add-clock-at clock-at-requires returns)

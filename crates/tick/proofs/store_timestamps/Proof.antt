@@ -6,24 +6,24 @@ use Rattle.tick.proofs.store_timestamps.Tie as tie
 
 step-by-requires : tie.Need-step-by-requires
 step-by-requires c κs =
-    let k = c .before .pre in rw (c .cycle-amount .ensures) (clock-within _ _ k .remainder, amount-low _ _ k)
+    let k = c .before .pre in rw (c .steer .ensures) (clock-within _ _ k .remainder, amount-low _ _ k)
 
 capture-requires : tie.Need-capture-requires
 capture-requires c κs =
     let k = c .before .before .pre in
-    rw (c .step-by .ensures, c .before .cycle-amount .ensures) (capturing _ _ k _ (codes-few _ _ k .input1))
+    rw (c .step-by .ensures, c .before .steer .ensures) (capturing _ _ k _ (codes-few _ _ k .input1))
 
 capture-requires-2 : tie.Need-capture-requires-2
 capture-requires-2 c κs =
     let step = c .before in
     let k = step .before .before .pre in
-    rw (step .step-by .ensures, step .before .cycle-amount .ensures) (capturing _ _ k _ (codes-few _ _ k .input2))
+    rw (step .step-by .ensures, step .before .steer .ensures) (capturing _ _ k _ (codes-few _ _ k .input2))
 
 capture-requires-3 : tie.Need-capture-requires-3
 capture-requires-3 c κs =
     let step = c .before .before in
     let k = step .before .before .pre in
-    rw (step .step-by .ensures, step .before .cycle-amount .ensures) (capturing _ _ k _ (codes-few _ _ k .input3))
+    rw (step .step-by .ensures, step .before .steer .ensures) (capturing _ _ k _ (codes-few _ _ k .input3))
 
 returns : tie.Need-returns
 returns c =
@@ -33,7 +33,7 @@ returns c =
       c .before .capture2 .ensures,
       c .before .before .capture .ensures,
       step .step-by .ensures,
-      step .before .cycle-amount .ensures,
+      step .before .steer .ensures,
     )
 
 pub store-timestamps-spec : {M : Type 1} → statement M

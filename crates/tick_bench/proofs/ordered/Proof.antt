@@ -1,7 +1,7 @@
 -- The definition's orders, one after the other; none is a tick, and none reads a FIFO.
 use mathlib.Core.Path.{refl}
 use borrow.Author.Needs.{needs}
-use Rattle.model.specs.Run.{engineFrom}
+use Rattle.model.specs.Run.{engineBy}
 use Rattle.model.proofs.Laws.Valid.{power-on-valid}
 use Rattle.tick_bench.proofs.ordered.Statement.{statement}
 use Rattle.tick_bench.proofs.ordered.Tie as tie
@@ -27,7 +27,7 @@ give-requires-4 c κs =
     (record { on = c .before .give3 .ensures .keeps; order = refl; reads-none = refl })
 
 returns : tie.Need-returns
-unfolding engineFrom
+unfolding engineBy
 returns c =
     let one = c .before .before in
     let steered = one .before .before in
