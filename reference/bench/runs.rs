@@ -1,6 +1,6 @@
-//! Rows of runs, as lines of a sheet and on a lent record. A unit is one run: what a sheet with more run lines, or a
-//! record with more runs, costs more, divided by their number, so that nothing else is in it. The tuned engine ticks,
-//! so of its long runs only few are done.
+//! Rows of runs, as lines of a sheet and on a lent record, and of previews, as lines of a sheet. A unit is one run or
+//! preview: what a sheet with more such lines, or a record with more runs, costs more, divided by their number, so that
+//! nothing else is in it. The tuned engine ticks, so of its long runs only few are done.
 use crate::engine::{Command, Outcome};
 use crate::{command, lendaru_execute, lendaru_power_on, lendaru_run, sheets};
 use std::hint::black_box;
@@ -19,6 +19,8 @@ const FEW: u64 = 8;
 const MANY: u64 = 16;
 
 pub struct Runs {
+    /// 9, or 10 for previews
+    op: u64,
     orders: Vec<Command>,
     /// what a run asks for, and the ticks that it does
     most: u64,
@@ -41,12 +43,17 @@ pub fn rows() -> Vec<(&'static str, Runs)> {
     let (far, near) = (vec![train(1, 3, 1_000_000, 1, 3)], vec![train(1, 3, 320, 1, 3)]);
     let row = |name, orders: &[Command], most, ticks, lent| {
         let orders = orders.to_vec();
-        (name, Runs { orders, most, ticks, lent, once: false })
+        (name, Runs { op: 9, orders, most, ticks, lent, once: false })
     };
     const MILLION: u64 = 1_000_000;
     let once = |name, lent| {
         let (name, runs) = row(name, &twice, MILLION, MILLION, lent);
         (name, Runs { once: true, ..runs })
+    };
+    // 9 ns for two cycles in the words
+    let preview = |name, ticks| {
+        let (name, runs) = row(name, &[command(1, &[0, 2, 0, 0, 2304])], ticks, ticks, false);
+        (name, Runs { op: 10, ..runs })
     };
     vec![
         row("run line, 10^6 cycles, idle", &[], MILLION, MILLION, false),
@@ -63,6 +70,8 @@ pub fn rows() -> Vec<(&'static str, Runs)> {
         row("run on a lent record, to an edge after 40 cycles", &near, MILLION, 40, true),
         once("run line, 10^6 cycles, two trains ahead, two adjustments that end", false),
         once("run on a lent record, 10^6 cycles, two trains ahead, two adjustments that end", true),
+        preview("preview of 1,000 ticks, line of a sheet", 1000),
+        preview("preview of 1 tick, line of a sheet", 1),
     ]
 }
 
@@ -148,7 +157,7 @@ impl Runs {
     /// The sheet is written with all its lines and cut, so that writing it costs the same for every n.
     fn sheet(&self, n: u64) -> Vec<u8> {
         let line = |c: &Command| c.f.iter().fold(c.op.to_string(), |line, v| format!("{line},{v}")) + "\n";
-        let run = line(&command(9, &[self.most]));
+        let run = line(&command(self.op, &[self.most]));
         let mut s = "op,a,b,c,d,e,f,g,h\n".to_string();
         s.extend(self.orders.iter().map(line));
         s.push_str(&run.repeat(MANY as usize));

@@ -1,4 +1,4 @@
-//! The engine: clock, stampers, generators, interrupt bits, and the ten commands.
+//! The engine: clock, stampers, generators, interrupt bits, and the eleven commands.
 use crate::generator::Generator;
 use std::collections::VecDeque;
 
@@ -39,6 +39,7 @@ pub(crate) struct Adjustment {
     pub cycles: u64,
 }
 
+#[derive(Clone)]
 pub struct Engine {
     /// the time shown and the remainder in one number, in 2^-32 ns
     pub(crate) exact: u128,
@@ -121,7 +122,7 @@ impl Engine {
     }
 
     pub fn execute(&mut self, c: &Command) -> Outcome {
-        if c.op > 9 {
+        if c.op > 10 {
             return refuse(5);
         }
         if !fields_listed(c) {
@@ -153,7 +154,8 @@ impl Engine {
                 accept([full(0) << 7 | full(1) << 8 | full(2) << 9, 0, 0, 0, 0])
             }
             8 => accept(self.words),
-            _ => self.run(c.f[0]),
+            9 => self.run(c.f[0]),
+            _ => self.preview(c.f[0]),
         }
     }
 
@@ -195,6 +197,22 @@ impl Engine {
             }
         }
         out
+    }
+
+    /// The adjust write from the present words and so many ticks, done on a copy of everything.
+    fn preview(&self, ticks: u64) -> Outcome {
+        let mut copy = self.clone();
+        let mut last = copy.command(2, 8);
+        for _ in 0..ticks {
+            if last.answer == 0 {
+                last = copy.tick(&[0; 8]);
+            }
+        }
+        if last.answer == 0 {
+            copy.command(16, 0)
+        } else {
+            last
+        }
     }
 
     fn capture(&mut self, i: usize, code: u64, shown: u128, step: u128) {
@@ -322,6 +340,7 @@ fn fields_listed(c: &Command) -> bool {
         4 => (1, [1, 2].contains(&f[0])),
         6 => (1, f[0] & !0x3F7F == 0),
         9 => (1, (1..=1_000_000).contains(&f[0])),
+        10 => (1, (1..=1_000).contains(&f[0])),
         _ => (0, true),
     };
     good && f[listed..].iter().all(|&x| x == 0)

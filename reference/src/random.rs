@@ -66,6 +66,16 @@ impl Random {
         }
     }
 
+    /// How many ticks a preview asks for: as a run, up to its own limit.
+    fn previewed(&mut self) -> u64 {
+        match self.below(20) {
+            0..=13 => 1 + self.below(400),
+            14..=16 => 1 + self.below(1000),
+            17..=18 => self.one_of(&[0, 1, 999, 1000, 1001]),
+            _ => self.hostile(),
+        }
+    }
+
     /// Words of an amount of some nanoseconds, with a count that ticks use up, or only runs.
     fn steering(&mut self) -> [u64; 5] {
         let most = if self.chance(2) { 65_535 } else { self.one_of(&[3, 30, 30, 400, 2000]) };
@@ -106,9 +116,13 @@ impl Random {
                     }
                 }
             }
-            40..=54 => {
+            40..=52 => {
                 c[0] = 9;
                 c[1] = self.cycles();
+            }
+            53..=54 => {
+                c[0] = 10;
+                c[1] = self.previewed();
             }
             55..=64 => {
                 c[0] = 1;
@@ -195,11 +209,14 @@ impl Random {
         vec![c; times as usize]
     }
 
-    /// Two or three adjust writes, and now and then another command behind one.
+    /// Two or three adjust writes, some with a preview before them, and now and then another command behind one.
     fn adjustments(&mut self) -> Vec<Command> {
         let mut all = Vec::new();
         for _ in 0..2 + self.below(2) {
             all.push(load(self.steering()));
+            if self.chance(30) {
+                all.push(Command { op: 10, f: [self.previewed(), 0, 0, 0, 0, 0, 0, 0] });
+            }
             all.push(Command { op: 2, f: [2, self.one_of(&[0, 8, 8, 8]), 0, 0, 0, 0, 0, 0] });
             if self.chance(30) {
                 let [op, f @ ..] = self.command();

@@ -1,4 +1,5 @@
-//! What the run lines and the waiting adjustments of a comparison did, so that one sees that they were tried.
+//! What the run lines, the waiting adjustments and the previews of a comparison did, so that one sees that they were
+//! tried.
 use crate::engine::{Command, Outcome};
 use std::fmt;
 
@@ -65,5 +66,23 @@ impl fmt::Display for Waits {
         let Waits { waited, refused, taken: [ticks, runs, both] } = self;
         write!(f, "adjust writes: {waited} waited, {refused} refused with 11; taken up by a tick line {ticks}, ")?;
         write!(f, "by a run line {runs}, by one that ended both {both}")
+    }
+}
+
+/// Previews by their answer.
+#[derive(Default)]
+pub struct Previews([u64; 16]);
+
+impl Previews {
+    pub fn told(&mut self, c: &Command, o: &Outcome) {
+        self.0[o.answer as usize] += u64::from(c.op == 10);
+    }
+}
+
+impl fmt::Display for Previews {
+    fn fmt(&self, f: &mut fmt::Formatter) -> fmt::Result {
+        let of = |n: usize| self.0[n];
+        write!(f, "previews: {} shown, refused with 6 {}, with 9 {}, ", of(0), of(6), of(9))?;
+        write!(f, "with 10 {}, with 11 {}, with 15 {}", of(10), of(11), of(15))
     }
 }

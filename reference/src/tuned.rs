@@ -217,16 +217,59 @@ impl Engine {
         accept([v1, v2, 0, 0, 0])
     }
 
-    /// Op 9, and what is no op: by itself, so that the other ops cost what they cost without it.
+    /// Ops 9 and 10, and what is no op: by itself, so that the other ops cost what they cost without it.
     #[inline(never)]
     fn run_line(&mut self, c: &Command) -> Outcome {
-        if c.op > 9 {
+        if c.op > 10 {
             return refuse(5);
         }
         if c.f[1..].iter().fold(0, |a, &x| a | x) != 0 {
             return refuse(6);
         }
+        if c.op == 10 {
+            return self.preview(c.f[0]);
+        }
         self.run(c.f[0])
+    }
+
+    /// Where the clock would end after an adjust write and so many ticks: on clock and steering alone.
+    #[inline(never)]
+    fn preview(&self, ticks: u64) -> Outcome {
+        let [_, w2, w3, w4, w5] = self.words.map(u64::from);
+        let (amount, count) = (w5 << 24 | w4 << 8 | w3 >> 8, (w3 & 255) << 16 | w2);
+        if !(1..=1000).contains(&ticks) {
+            return refuse(6);
+        }
+        if w5 < 256 {
+            return refuse(9);
+        }
+        if count == 0 {
+            return refuse(10);
+        }
+        if self.waiting_cycles != 0 {
+            return refuse(11);
+        }
+        let (mut adjust, mut cycles, mut waiting) = (amount, count, (0, 0));
+        if self.cycles != 0 {
+            (adjust, cycles, waiting) = (self.adjust, u64::from(self.cycles), (amount, count));
+        }
+        let (mut sec, mut sub) = (self.sec, self.sub);
+        for _ in 0..ticks {
+            sub += if cycles != 0 { adjust } else { self.period };
+            if sub >= SECOND {
+                if sec == LAST {
+                    return refuse(15);
+                }
+                (sec, sub) = (sec + 1, sub - SECOND);
+            }
+            if cycles != 0 {
+                cycles -= 1;
+                if cycles == 0 {
+                    ((adjust, cycles), waiting) = (waiting, (0, 0));
+                }
+            }
+        }
+        accept(words_of(sec, (sub >> 32) as u32, false).map(u64::from))
     }
 
     /// Ticks without inputs, at most so many, up to an edge or the end of time.

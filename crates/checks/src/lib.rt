@@ -1,8 +1,9 @@
-// The checks of a command on a valid record, from number 5 on: a function for each that is more than a comparison,
-// and the ordered list, where the first that fails is the answer. Each returns what the model's table says of its
-// number (specs/Checks.antt). Document 01, "Where each command is checked".
+// The checks of a command on a valid record, from number 5 on, but for a preview, which makes its own: a function for
+// each that is more than a comparison, and the ordered list, where the first that fails is the answer. Each returns
+// what the model's table says of its number (specs/Checks.antt). Document 01, "Where each command is checked".
 ghost use mathlib.Core.Path.{_≡_};
-ghost use mathlib.Core.Bool.{true};
+ghost use mathlib.Core.Bool.{true, false};
+ghost use lib.Dec.{eqb};
 ghost use Rattle.model.specs.Record.{fifo};
 ghost use Rattle.model.specs.Ranges.{valid};
 ghost use Rattle.model.specs.Checks.{readsFifo, writes as writesSpec, passes, answerOf};
@@ -76,6 +77,7 @@ fn time_ok(e: Engine, c: Command) -> bool
 
 // 9: an amount that is written has an NS, and a PERIOD its zero byte.
 fn amount_ok(e: Engine, c: Command) -> bool
+    requires { ⌜ eqb (c .op) 10 ≡ false ⌝ }
     ensures { λ r. ⌜ r ≡ passes e c 9 ⌝ }
 {
     implies(
@@ -90,6 +92,7 @@ fn amount_ok(e: Engine, c: Command) -> bool
 // 10: an adjustment has cycles.
 fn count_ok(e: Engine, c: Command) -> bool
     requires { ⌜ valid e ≡ true ⌝ }
+    requires { ⌜ eqb (c .op) 10 ≡ false ⌝ }
     ensures { λ r. ⌜ r ≡ passes e c 10 ⌝ }
 {
     implies(writes(c, 2), 1 <= words::count_in(e.words))
@@ -97,6 +100,7 @@ fn count_ok(e: Engine, c: Command) -> bool
 
 // 11: none waits.
 fn waiting_free(e: Engine, c: Command) -> bool
+    requires { ⌜ eqb (c .op) 10 ≡ false ⌝ }
     ensures { λ r. ⌜ r ≡ passes e c 11 ⌝ }
 {
     implies(writes(c, 2), e.steering.waiting.cycles == 0)
@@ -121,6 +125,7 @@ fn start_ahead(e: Engine, c: Command) -> bool
 // 15: the tick, or the first of a run, ends within the last second.
 fn time_left(e: Engine, c: Command) -> bool
     requires { ⌜ valid e ≡ true ⌝ }
+    requires { ⌜ eqb (c .op) 10 ≡ false ⌝ }
     ensures { λ r. ⌜ r ≡ passes e c 15 ⌝ }
 {
     implies(
@@ -132,6 +137,7 @@ fn time_left(e: Engine, c: Command) -> bool
 // The table, from the top. Numbers 7 to 14 speak of ops 2 and 3, so they are asked of no other.
 pub fn answer(e: Engine, c: Command) -> u64
     requires { ⌜ valid e ≡ true ⌝ }
+    requires { ⌜ eqb (c .op) 10 ≡ false ⌝ }
     ensures { λ r. ⌜ r ≡ answerOf e c ⌝ }
 {
     let known = c.op < OPS;

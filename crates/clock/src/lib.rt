@@ -6,7 +6,7 @@ ghost use mathlib.Core.Bool.{true};
 ghost use Prim.Native.Nat.{_+_, _*_, _<_, _≤_, _^_};
 ghost use lib.Dec.{leb, ltb};
 ghost use Rattle.model.specs.Clock.{shown, endOfTime, cycleAmount, stepBy, ticked, clockSet};
-ghost use Rattle.model.specs.Clock.{noAdjustment, steeringAfter};
+ghost use Rattle.model.specs.Clock.{noAdjustment, adjustedBy, steeringAfter};
 ghost use Rattle.model.specs.Ranges.{steeringOk};
 ghost use Rattle.model.specs.Bounds.{ClockIn};
 ghost use Rattle.clock.specs.Cycle.{steeredOf, Cycle};
@@ -68,6 +68,26 @@ pub fn no_adjustment() -> Adjustment
     Adjustment {
         amount: 0,
         cycles: 0,
+    }
+}
+
+// The steering with one adjustment more: it runs at once where none runs, and waits behind one that does.
+pub fn adjust(s: Steering, j: Adjustment) -> Steering
+    ensures { λ r. ⌜ r ≡ adjustedBy s j ⌝ }
+{
+    if s.adjustment.cycles == 0 {
+        let behind = s.waiting;
+        return Steering {
+            period: s.period,
+            adjustment: j,
+            waiting: behind,
+        };
+    }
+    let running = s.adjustment;
+    Steering {
+        period: s.period,
+        adjustment: running,
+        waiting: j,
     }
 }
 

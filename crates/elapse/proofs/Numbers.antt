@@ -11,7 +11,7 @@ use Rattle.model.specs.declared.Clock.{Clock}
 use Rattle.model.specs.declared.Adjustment.{Adjustment}
 use Rattle.model.specs.declared.Steering.{Steering}
 use Rattle.model.specs.declared.Generator.{Generator}
-use Rattle.model.specs.Clock.{shown, clockAtExact}
+use Rattle.model.specs.Clock.{shown, exact, clockAtExact}
 use Rattle.model.specs.Generator.{pendingTotal}
 use Rattle.model.specs.Elapse.{amountOf}
 use Rattle.model.specs.Ranges.{adjustmentOk, steeringOk}
@@ -20,6 +20,10 @@ use Rattle.model.proofs.Laws.Ranges.{SteeringIn, steering-in, adjustment-in, no
 use Rattle.elapse.specs.Reach.{second, inSecond, cyclesOf, phaseTo, edgeTime, edgeNeed}
 use Rattle.elapse.proofs.Reach.{some-amount}
 use Rattle.elapse.proofs.Edges.{edge-later}
+
+-- the exact time, cut at the second shown
+pub from-second : (k : Clock) (x : ℕ) → k .seconds * second + (inSecond k + x) ≡ exact k + x
+from-second k x = omega arith
 
 -- an adjustment, running or not, is of few cycles and a small amount
 adjustment-low : (j : Adjustment) → adjustmentOk j ≡ true → (j .cycles < 2 ^ 24) × (j .amount < 2 ^ 40)

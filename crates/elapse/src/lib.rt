@@ -4,8 +4,9 @@
 // most once. Document 02, A.1 and A.4.
 ghost use mathlib.Core.Path.{_≡_};
 ghost use mathlib.Core.Bool.{true};
-ghost use Prim.Native.Nat.{_+_, _*_, _-_, _<_, _≤_, _^_};
-ghost use Rattle.model.specs.Clock.{clockAtExact};
+ghost use Prim.Native.Nat.{_+_, _*_, _-_, _/_, _<_, _≤_, _^_};
+ghost use lib.Dec.{ltb};
+ghost use Rattle.model.specs.Clock.{endOfTime, clockAtExact};
 ghost use Rattle.model.specs.Ranges.{steeringOk};
 ghost use Rattle.model.specs.Bounds.{ClockIn};
 ghost use Rattle.model.specs.Elapse.{amountOf, spentBy, steeringBy, endsWithin};
@@ -17,6 +18,7 @@ use model::Generator;
 use model::STEP_UNIT;
 use model::Steering;
 use tests::both;
+use tests::fails;
 use tests::pick;
 
 // A nanosecond and a second, in 2^-32 ns.
@@ -84,6 +86,14 @@ pub fn clock_at(seconds: u64, after: u64) -> Clock
         fraction: rest / STEP_UNIT % 256,
         remainder: rest % STEP_UNIT,
     }
+}
+
+// The time so much after the start of a second, which may reach into the next one, is before the end of time.
+pub fn is_in_time(seconds: u64, after: u64) -> bool
+    requires { ⌜ (seconds < 2 ^ 48) × (after < 2 * second) ⌝ }
+    ensures { λ r. ⌜ r ≡ ltb ((seconds * second + after) / 2 ^ 24) endOfTime ⌝ }
+{
+    fails(both(seconds == LAST_SECOND, SECOND <= after))
 }
 
 // An adjustment after n cycles of its own.

@@ -25,15 +25,16 @@ use Rattle.model.proofs.Laws.Valid.{execute-valid}
 use Rattle.change.specs.declared.Change.{Change}
 use Rattle.change.specs.Changes.{changeTo, outcomeOf, Gives}
 use Rattle.change.proofs.Given.{refused-gives, order-still}
-use Rattle.engine.specs.Stepped.{Stepped}
+use Rattle.engine.specs.Stepped.{Ordered, Stepped}
 
 module _ (e : Engine) (c : Command) where
-  -- an accepted op that is none of 0 to 7 and not 9 is the last arm's
-  pub last-op : answerOf e c ≡ 0 → eqb (c .op) 0 ≡ false → eqb (c .op) 9 ≡ false → NoneOf 1 7 (c .op) → c .op ≡ 8
-  last-op passed order no-run none =
-      let some = eqb-false (c .op) 0 order in
-      let other = eqb-false (c .op) 9 no-run in
-      let known = accepted-facts e c passed .op in
+  -- an accepted op that is none of 0 to 7, 9 and 10 is the last arm's
+  pub last-op : Ordered e c → NoneOf 1 7 (c .op) → c .op ≡ 8
+  last-op start none =
+      let some = eqb-false (c .op) 0 (start .order) in
+      let other = eqb-false (c .op) 9 (start .noRun) in
+      let another = eqb-false (c .op) 10 (start .noPreview) in
+      let known = accepted-facts e c (start .passed) .op in
       let past = past-arms 1 7 (c .op) (omega arith) none in
       omega arith
 

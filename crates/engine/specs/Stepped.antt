@@ -1,4 +1,4 @@
--- An accepted command that is neither a tick nor a run; and one command on a valid record: the model's outcome, with a
+-- An accepted command that is no tick, run or preview; and one command on a valid record: the model's outcome, with a
 -- record that is valid again.
 use mathlib.Core.Path.{_≡_}
 use mathlib.Core.Bool.{true, false}
@@ -14,6 +14,7 @@ pub record Ordered (e : Engine) (c : Command) : Type 0 where
   pub passed : answerOf e c ≡ 0
   pub order : eqb (c .op) 0 ≡ false
   pub noRun : eqb (c .op) 9 ≡ false
+  pub noPreview : eqb (c .op) 10 ≡ false
 
 pub record Stepped (e : Engine) (c : Command) (r : Outcome) : Type 0 where
   pub is : r ≡ execute e c

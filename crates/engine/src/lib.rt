@@ -47,7 +47,7 @@ pub fn power_on() -> Engine
     }
 }
 
-// An accepted command that is neither a tick nor a run, by its op.
+// An accepted command that is no tick, run or preview, by its op.
 fn perform(e: Engine, c: Command) -> Change
     requires { ⌜ Ordered e c ⌝ }
     ensures { λ r. ⌜ Gives e c (performed e c) r ⌝ }
@@ -65,8 +65,8 @@ fn perform(e: Engine, c: Command) -> Change
     }
 }
 
-// A command that is no tick, on a valid record: a refusal changes nothing. A run makes its own two checks, as a tick
-// does.
+// A command that is no tick, on a valid record: a refusal changes nothing. A run and a preview make their own checks,
+// as a tick does.
 pub fn order(e: Engine, c: Command) -> Change
     requires { ⌜ valid e ≡ true ⌝ }
     requires { ⌜ eqb (c .op) 0 ≡ false ⌝ }
@@ -74,6 +74,9 @@ pub fn order(e: Engine, c: Command) -> Change
 {
     if c.op == 9 {
         return run::run(e, c);
+    }
+    if c.op == 10 {
+        return preview::preview(e, c);
     }
     let answer = checks::answer(e, c);
     if answer == 0 {

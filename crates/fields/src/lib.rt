@@ -1,10 +1,11 @@
 // The field lists: number 6. One function for each op's list, and one choice among them. Each returns a definition
 // of the model's specs/Fields.antt. Document 01, "Command sheet": unlisted fields must be 0; op 9, document
-// 02, A.1.
+// 02, A.1; op 10, A.5.
 ghost use mathlib.Core.Path.{_≡_};
 ghost use Rattle.model.specs.Tests.{every};
 ghost use Rattle.model.specs.Fields.{zeroFromF, zeroFromD, zeroFromB, isGenerator, tickFields, loadFields};
-ghost use Rattle.model.specs.Fields.{commandFields, armFields, stopFields, maskFields, noFields, runFields, fieldsOk};
+ghost use Rattle.model.specs.Fields.{commandFields, armFields, stopFields, maskFields, noFields};
+ghost use Rattle.model.specs.Fields.{ticksFields, runFields, previewFields, fieldsOk};
 use model::Command;
 use model::ENABLED_MASK;
 use model::LONG_LIMIT;
@@ -106,11 +107,25 @@ fn no_fields(c: Command) -> bool
     both(c.a == 0, zero_from_b(c))
 }
 
+// A number of ticks.
+fn ticks_fields(c: Command, most: u64) -> bool
+    ensures { λ r. ⌜ r ≡ every (ticksFields most c) ⌝ }
+{
+    both(1 <= c.a, both(c.a <= most, zero_from_b(c)))
+}
+
 // Op 9: the ticks.
 pub fn run_fields(c: Command) -> bool
     ensures { λ r. ⌜ r ≡ every (runFields c) ⌝ }
 {
-    both(1 <= c.a, both(c.a <= 1_000_000, zero_from_b(c)))
+    ticks_fields(c, 1_000_000)
+}
+
+// Op 10: the ticks.
+pub fn preview_fields(c: Command) -> bool
+    ensures { λ r. ⌜ r ≡ every (previewFields c) ⌝ }
+{
+    ticks_fields(c, 1_000)
 }
 
 // The list of the command's op.
@@ -129,6 +144,7 @@ pub fn fields_ok(c: Command) -> bool
         7 => no_fields(c),
         8 => no_fields(c),
         9 => run_fields(c),
+        10 => preview_fields(c),
         _ => no_fields(c),
     }
 }

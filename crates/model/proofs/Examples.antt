@@ -1,6 +1,6 @@
 -- The examples, as one list proved by one statement: the starred ones of document 01, each cell of its tables of words,
--- run lines, adjustments in succession and timestamps. Each holds because the definitions compute: a run from power-on
--- gives the numbers that the papers state or that were worked out from them.
+-- run lines, adjustments in succession, previews and timestamps. Each holds because the definitions compute: a run from
+-- power-on gives the numbers that the papers state or that were worked out from them.
 use Prim.Native.Nat.{ℕ}
 use mathlib.Core.Path.{_≡_, refl}
 use mathlib.Core.List.{List, [], _∷_, _++_, map}
@@ -16,6 +16,7 @@ use Rattle.model.specs.Record
 use Rattle.model.specs.Tick
 use Rattle.model.specs.RunLine
 use Rattle.model.specs.Orders
+use Rattle.model.specs.Preview
 use Rattle.model.specs.Ops
 use Rattle.model.specs.Ranges
 use Rattle.model.specs.Fields
@@ -31,17 +32,19 @@ use Rattle.model.proofs.Examples.Starred.{shownAfter, edgeAt, edgesFrom
 use Rattle.model.proofs.Examples.Cells.{timeCell, amountCell, countCell, refusedCell, cells}
 use Rattle.model.proofs.Examples.RunLines.{runLines}
 use Rattle.model.proofs.Examples.Adjustments.{adjustments}
+use Rattle.model.proofs.Examples.Previews.{previews}
 use Rattle.model.proofs.Examples.Timestamps.{timestamps}
--- commands, the five parts of the list
+-- commands, the six parts of the list
 pub mod Runs
 pub mod Starred
 pub mod Cells
 pub mod RunLines
 pub mod Adjustments
+pub mod Previews
 pub mod Timestamps
 
 pub examples : List Example
-examples = starred ++ cells ++ runLines ++ adjustments ++ timestamps
+examples = starred ++ cells ++ runLines ++ adjustments ++ previews ++ timestamps
 
 -- two lists of numbers are compared number by number, so that a list that is not as stated fails at once
 same : List ℕ → List ℕ → Bool
@@ -72,8 +75,8 @@ stated-equal (x ∷ xs) h =
     rw (same-equal (x .found) (x .stated) (t .0), stated-equal xs (t .1))
 
 examples-tested : asStated examples ≡ true
-unfolding examples starred cells runLines adjustments timestamps timeCell amountCell countCell refusedCell asStated
-    same answers lastValues values shownAfter edgeAt edgesFrom verdict engineBy historyBy Words.secondsIn
+unfolding examples starred cells runLines adjustments previews timestamps timeCell amountCell countCell refusedCell
+    asStated same answers lastValues values shownAfter edgeAt edgesFrom verdict engineBy historyBy Words.secondsIn
     Words.nanosecondsIn Words.aboveNanoseconds Words.wholeIn Words.fracIn Words.amountIn Words.belowFrac Words.countIn
     Words.timeWords Clock.cycleAmount Clock.stepBy Clock.remainderBy Clock.ticked Clock.lastCycle Clock.steeringAfter
     Clock.adjustedBy Fifo.timestampNs Fifo.timestampOf Fifo.captured Fifo.capturesFirst Fifo.overflows Fifo.popped
@@ -82,10 +85,10 @@ unfolding examples starred cells runLines adjustments timestamps timeCell amount
     Interrupts.withBit Interrupts.latch Interrupts.anyBoth Interrupts.interruptWord Interrupts.statusWord
     Interrupts.onlyBits Record.powerOn Ranges.clockOk Ranges.adjustmentOk Ranges.steeringOk Ranges.timestampOk
     Ranges.placeOk Ranges.fifoOk Ranges.generatorOk Ranges.interruptsOk Ranges.wordsOk Ranges.valid Fields.fieldTests
-    Fields.fieldsOk Checks.checks Checks.answerOf Tick.tickEvents Tick.tickEngine Tick.tickValues RunLine.hasEnded
-    RunLine.oneMore RunLine.run RunLine.ran Orders.written Orders.readWords Orders.readEngine Orders.commanded
-    Orders.interruptsRead Orders.statusOf Ops.performed Execute.execute Text.isValue Sheet.isLine Sheet.sheetVerdict
-    Sheet.commandsIn Text.decimal Results.results
+    Fields.fieldsOk Checks.checks Checks.answerOf Tick.tickEvents Tick.tickEngine Tick.tickValues Tick.ticks
+    Tick.inTimeFor RunLine.hasEnded RunLine.oneMore RunLine.run RunLine.ran Orders.written Orders.readWords
+    Orders.readEngine Orders.commanded Orders.interruptsRead Orders.statusOf Preview.previewed Ops.performed
+    Execute.execute Text.isValue Sheet.isLine Sheet.sheetVerdict Sheet.commandsIn Text.decimal Results.results
 examples-tested = refl
 
 -- every example is as stated

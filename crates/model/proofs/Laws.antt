@@ -14,7 +14,7 @@ pub mod Fifo
 pub mod Generator
 pub mod Bits
 -- the whole: what an accepted command has passed, that a valid record stays valid, ticks, outcomes, timestamps; number
--- 11 as it was, and what the waiting adjustment does
+-- 11 as it was, what the waiting adjustment does, and a preview
 pub mod Checks
 pub mod Parts
 pub mod Interrupts
@@ -26,10 +26,13 @@ pub mod Outcomes
 pub mod Timestamps
 pub mod BeforeWaiting
 pub mod Waiting
--- ticks by formula: the clock and the steering, the record; a run line by `execute` alone
+pub mod Preview
+-- ticks by formula: the clock and the steering, the record, and both whatever the generators do; a run line by
+-- `execute` alone
 pub mod Cycles
 pub mod Phases
 pub mod Elapse
+pub mod Rehearsed
 pub mod RunLine
 -- fractions, the eighth of an edge, and its lag
 pub mod Fractions

@@ -6,6 +6,7 @@ pub mod RunLines
 pub mod Timestamps
 pub mod EighthIsFloor
 pub mod WaitingAdjustment
+pub mod Preview
 pub mod BeforeWaiting
 pub mod Sheets
 pub mod Examples

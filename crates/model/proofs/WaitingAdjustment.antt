@@ -2,6 +2,7 @@
 -- amounts enter the exact time in their turn is demand 3's to say; what stays as it was, BeforeWaiting's.
 use Prim.Native.Nat.{ℕ, _+_, _-_, _≤_, _<_}
 use mathlib.Core.Path.{_≡_}
+use mathlib.Core.Logic.{_⊎_}
 use mathlib.Core.Bool.{true}
 use Rattle.model.specs.declared.Engine.{Engine}
 use Rattle.model.specs.declared.Command.{Command}
@@ -14,9 +15,9 @@ use Rattle.model.specs.Checks.{passes}
 use Rattle.model.specs.Execute.{execute}
 use Rattle.model.proofs.Laws.Waiting as Law
 
--- "Number 11 now comes only if the waiting place is taken", and only for an adjust write
+-- "Number 11 now comes only if the waiting place is taken", and only for an adjust write, or a preview of one (A.5)
 pub gets-11 : (e : Engine) (c : Command) → execute e c .answer ≡ 11
-    → (c .op ≡ 2) × (c .a ≡ 2) × (0 < e .steering .waiting .cycles)
+    → (0 < e .steering .waiting .cycles) × (((c .op ≡ 2) × (c .a ≡ 2)) ⊎ (c .op ≡ 10))
 gets-11 = Law.eleven
 
 -- and then it does come, where the checks above it pass

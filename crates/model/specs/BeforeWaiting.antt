@@ -11,12 +11,12 @@ use Rattle.model.specs.Tests.{every, firstFailed}
 use Rattle.model.specs.Record.{powerOn}
 use Rattle.model.specs.Outcome.{refused}
 use Rattle.model.specs.Ops.{performed}
-use Rattle.model.specs.Checks.{Row, row, writes, table, checked}
+use Rattle.model.specs.Checks.{Row, row, adjusts, table, checked}
 use Rattle.model.specs.Run.{Entry, engineBy, historyBy}
 
 -- the row of 11, asked of the running adjustment
 abbrev pub noneRuns : Row
-noneRuns = row 11 (writes 2) (λ e c. eqb (e .steering .adjustment .cycles) 0)
+noneRuns = row 11 adjusts (λ e c. eqb (e .steering .adjustment .cycles) 0)
 
 -- the table of checks with this row in the place of the other
 abbrev pub tableBefore : List Row

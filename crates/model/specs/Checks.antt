@@ -1,5 +1,6 @@
 -- The table of document 01, "Where each command is checked": checks run from the top, and the first that fails is the
--- answer. Number 11 is document 02's, A.4: the waiting place is taken.
+-- answer. Number 11 is document 02's, A.4: the waiting place is taken. Op 10 has the checks of what it does on its copy
+-- (A.5): 9 to 11 as an adjust write, and 15 where one of its ticks would get it.
 use Prim.Native.Nat.{ℕ, _+_, _*_, _-_, _<_, _≤_}
 use mathlib.Core.Path.{_≡_}
 use mathlib.Core.List.{List, [], _∷_, map}
@@ -14,7 +15,8 @@ use Rattle.model.specs.Clock.{shown}
 use Rattle.model.specs.Fifo.{isEmpty}
 use Rattle.model.specs.Generator.{isRunning}
 use Rattle.model.specs.Record.{fifo, generator}
-use Rattle.model.specs.Tick.{endsInTime}
+use Rattle.model.specs.Tick.{endsInTime, inTimeFor}
+use Rattle.model.specs.Orders.{adjustWritten}
 use Rattle.model.specs.Ops.{ops}
 use Rattle.model.specs.Ranges.{valid}
 use Rattle.model.specs.Fields.{fieldsOk}
@@ -34,12 +36,25 @@ readsFifo c = isOp 2 c && leb 1 (c .b) && leb (c .b) 3
 abbrev pub writes : ℕ → Command → Bool
 writes n c = isOp 2 c && eqb (c .a) n
 
+-- an adjust write: op 2's, or the one that op 10 does on its copy (document 02, A.5)
+abbrev pub adjusts : Command → Bool
+adjusts c = writes 2 c || isOp 10 c
+
 abbrev pub writesAmount : Command → Bool
-writesAmount c = writes 1 c || writes 2 c
+writesAmount c = writes 1 c || adjusts c
 
 -- an op that begins with a tick: op 0, and op 9, which gets 15 "if the very first would" (document 02, A.1)
 abbrev pub ticksFirst : Command → Bool
 ticksFirst c = isOp 0 c || isOp 9 c
+
+-- or that ticks on its copy: op 10 (document 02, A.5)
+abbrev pub isTicking : Command → Bool
+isTicking c = ticksFirst c || isOp 10 c
+
+-- what 15 asks: that the first tick ends in time, or each of a preview's (document 02, A.5)
+abbrev pub inTime : (preview : Bool) → Engine → ℕ → Bool
+inTime true e a = inTimeFor a (adjustWritten e)
+inTime false e a = endsInTime e
 
 abbrev pub always : Command → Bool
 always c = true
@@ -62,13 +77,13 @@ laterRows =
     ∷ row 6 always (λ e c. fieldsOk c)
     ∷ row 7 readsFifo (λ e c. not (isEmpty (fifo e (c .b))))
     ∷ row 8 (writes 0) (λ e c. leb (nanosecondsIn (e .words)) 999999999 && eqb (aboveNanoseconds (e .words)) 0)
-    ∷ row 9 writesAmount (λ e c. leb 1 (wholeIn (e .words)) && (writes 2 c || eqb (belowFrac (e .words)) 0))
-    ∷ row 10 (writes 2) (λ e c. leb 1 (countIn (e .words)))
-    ∷ row 11 (writes 2) (λ e c. eqb (e .steering .waiting .cycles) 0)
+    ∷ row 9 writesAmount (λ e c. leb 1 (wholeIn (e .words)) && (adjusts c || eqb (belowFrac (e .words)) 0))
+    ∷ row 10 adjusts (λ e c. leb 1 (countIn (e .words)))
+    ∷ row 11 adjusts (λ e c. eqb (e .steering .waiting .cycles) 0)
     ∷ row 12 (isOp 3) (λ e c. ltb (c .e) (c .f))
     ∷ row 13 (isOp 3) (λ e c. not (isRunning (generator e (c .a))))
     ∷ row 14 (isOp 3) (λ e c. leb (shown (e .clock)) ((c .b * 1000000000 + c .c) * 256))
-    ∷ row 15 ticksFirst (λ e c. endsInTime e)
+    ∷ row 15 isTicking (λ e c. inTime (isOp 10 c) e (c .a))
     ∷ []
 
 abbrev pub table : List Row

@@ -1,4 +1,5 @@
--- The field lists: number 6. Document 01, "Command sheet"; op 9, document 02, A.1. Unlisted fields must be 0.
+-- The field lists: number 6. Document 01, "Command sheet"; op 9, document 02, A.1; op 10, A.5. Unlisted fields must be
+-- 0.
 use Prim.Native.Nat.{ℕ, _^_}
 use mathlib.Core.List.{List, [], _∷_}
 use mathlib.Core.Bool.{Bool, _||_}
@@ -63,15 +64,24 @@ maskFields c = onlyBits enabledMask (c .a) ∷ zeroFromB c
 abbrev pub noFields : Command → List Bool
 noFields c = eqb (c .a) 0 ∷ zeroFromB c
 
--- op 9, run: the ticks, 1 to 1,000,000
+-- a number of ticks, from 1 on
+abbrev pub ticksFields : ℕ → Command → List Bool
+ticksFields most c = leb 1 (c .a) ∷ leb (c .a) most ∷ zeroFromB c
+
+-- op 9, run: 1 to 1,000,000
 abbrev pub runFields : Command → List Bool
-runFields c = leb 1 (c .a) ∷ leb (c .a) 1000000 ∷ zeroFromB c
+runFields = ticksFields 1000000
+
+-- op 10, preview: 1 to 1,000
+abbrev pub previewFields : Command → List Bool
+previewFields = ticksFields 1000
 
 -- the list of each op, by its number
 abbrev pub fieldLists : List (Command → List Bool)
 fieldLists =
     tickFields ∷ loadFields ∷ commandFields ∷ armFields ∷ stopFields ∷ noFields ∷ maskFields ∷ noFields ∷ noFields
     ∷ runFields
+    ∷ previewFields
     ∷ []
 
 unfoldable pub fieldTests : Command → List Bool

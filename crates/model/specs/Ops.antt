@@ -1,5 +1,5 @@
 -- The table of ops: what an accepted command does, by the number of its op. Document 01, "Command
--- sheet"; op 9, document 02, A.1.
+-- sheet"; op 9, document 02, A.1; op 10, A.5.
 use mathlib.Core.List.{List, [], _∷_}
 use lib.ListN.{getD}
 use Rattle.model.specs.declared.Engine.{Engine}
@@ -12,8 +12,9 @@ use Rattle.model.specs.Outcome.{refused, accepted}
 use Rattle.model.specs.Tick.{tickValues, tickEngine}
 use Rattle.model.specs.RunLine.{ran}
 use Rattle.model.specs.Orders.{loadedWords, commanded, armedBy, interruptsRead, maskSet, justFirst, statusOf}
+use Rattle.model.specs.Preview.{previewed}
 
--- tick, load words, command, arm, stop, read interrupts, set the enable mask, read status, show the words; run
+-- tick, load words, command, arm, stop, read interrupts, set the enable mask, read status, show the words; run, preview
 abbrev pub ops : List (Engine → Command → Outcome)
 ops =
     (λ e c. accepted (tickValues e) (tickEngine e c))
@@ -26,6 +27,7 @@ ops =
     ∷ (λ e c. accepted (justFirst (statusOf e)) e)
     ∷ (λ e c. accepted (e .words) e)
     ∷ (λ e c. ran e (c .a))
+    ∷ (λ e c. previewed e (c .a))
     ∷ []
 
 -- an op of no row gets number 5, and is never performed

@@ -2,6 +2,8 @@
 -- 3".
 use Prim.Native.Nat.{ℕ}
 use mathlib.Core.List.{List, [], _∷_}
+use mathlib.Core.Bool.{cond}
+use lib.Dec.{eqb}
 use lib.ListN.{replicate}
 use Rattle.model.specs.declared.Engine.{Engine}
 use Rattle.model.specs.declared.Command.{Command}
@@ -29,6 +31,11 @@ engineBy step e (c ∷ cs) = engineBy step (step e c .engine) cs
 unfoldable pub historyBy : (Engine → Command → Outcome) → Engine → List Command → List Entry
 historyBy step e [] = []
 historyBy step e (c ∷ cs) = entryOf c (step e c) ∷ historyBy step (step e c .engine) cs
+
+-- the answer of the first refused command, 0 where none is refused
+abbrev pub firstRefusal : List Entry → ℕ
+firstRefusal [] = 0
+firstRefusal (x ∷ xs) = cond (eqb (x .answer) 0) (firstRefusal xs) (x .answer)
 
 -- by the checks and the ops
 abbrev pub engineFrom : Engine → List Command → Engine

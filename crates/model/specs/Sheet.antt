@@ -11,10 +11,10 @@ use Rattle.model.specs.declared.Verdict.{Verdict}
 use Rattle.model.specs.Tests.{every}
 use Rattle.model.specs.Text.{bytes, comma, lineEnd, isValue, numberAfter, parts, row}
 
--- the version of the sheet format: 1 is document 01's, 2 has run lines (document 02, A.1). A change of what a sheet may
--- say counts it on
+-- the version of the sheet format: 1 is document 01's, 2 has run lines, 3 previews (document 02, A.1 and A.5). A change
+-- of what a sheet may say counts it on
 abbrev pub sheetVersion : ℕ
-sheetVersion = 2
+sheetVersion = 3
 
 -- `op,a,b,c,d,e,f,g,h` and its line end
 abbrev pub firstLine : List ℕ

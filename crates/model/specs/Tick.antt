@@ -2,7 +2,7 @@
 -- Document 01, "The clock", "Stamps and generators" and "Command sheet".
 use Prim.Native.Nat.{ℕ, zero, suc, _+_}
 use mathlib.Core.List.{List, [], _∷_, _++_}
-use mathlib.Core.Bool.{Bool}
+use mathlib.Core.Bool.{Bool, true, _&&_}
 use lib.Dec.{ltb}
 use Rattle.model.specs.declared.Engine.{Engine}
 use Rattle.model.specs.declared.Command.{Command}
@@ -74,3 +74,8 @@ noInputs = record { op = 0; a = 0; b = 0; c = 0; d = 0; e = 0; f = 0; g = 0; h =
 unfoldable pub ticks : ℕ → Engine → Engine
 ticks zero e = e
 ticks (suc n) e = tickEngine (ticks n e) noInputs
+
+-- each of the next n ticks without inputs ends in time
+unfoldable pub inTimeFor : ℕ → Engine → Bool
+inTimeFor zero e = true
+inTimeFor (suc n) e = endsInTime e && inTimeFor n (tickEngine e noInputs)

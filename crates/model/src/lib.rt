@@ -12,7 +12,7 @@ pub const NS_PER_SECOND: u64 = 1_000_000_000;
 pub const STEP_UNIT: u64 = 0x100_0000;
 
 // How many ops there are: the rows of the table of ops.
-pub const OPS: u64 = 10;
+pub const OPS: u64 = 11;
 
 // Words are below 2^16; N, D and counts of edges below 2^32.
 pub const WORD_LIMIT: u64 = 0x1_0000;

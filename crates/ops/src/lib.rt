@@ -5,7 +5,6 @@ ghost use mathlib.Core.Path.{_≡_};
 ghost use mathlib.Core.Bool.{false};
 ghost use Prim.Native.Nat.{_<_, _^_};
 ghost use Rattle.model.specs.Words.{noWords};
-ghost use Rattle.model.specs.Clock.{adjustedBy};
 ghost use Rattle.model.specs.Fifo.{isEmpty, entry};
 ghost use Rattle.model.specs.Generator.{idleGenerator};
 ghost use Rattle.model.specs.Record.{withWords, withGenerator, fifo};
@@ -16,7 +15,6 @@ ghost use Rattle.change.specs.Changes.{changeTo, oldestTaken, Gives};
 ghost use Rattle.ops.specs.Reading.{Commands, Readable, wordsRead};
 use change::Change;
 use change::change_to;
-use model::Adjustment;
 use model::Clock;
 use model::Command;
 use model::Engine;
@@ -93,36 +91,13 @@ fn write_period(e: Engine) -> Engine
     )
 }
 
-// The steering with one adjustment more: it runs at once where none runs, and waits behind one that does.
-fn adjust(s: Steering, j: Adjustment) -> Steering
-    ensures { λ r. ⌜ r ≡ adjustedBy s j ⌝ }
-{
-    if s.adjustment.cycles == 0 {
-        let next = s.waiting;
-        return Steering {
-            period: s.period,
-            adjustment: j,
-            waiting: next,
-        };
-    }
-    let running = s.adjustment;
-    Steering {
-        period: s.period,
-        adjustment: running,
-        waiting: j,
-    }
-}
-
 // Op 2, write 2: the adjustment.
 fn write_adjustment(e: Engine) -> Engine
     requires { ⌜ WordsIn (e .words) ⌝ }
     ensures { λ r. ⌜ r ≡ adjustWritten e ⌝ }
 {
-    let j = Adjustment {
-        amount: words::amount_in(e.words),
-        cycles: words::count_in(e.words),
-    };
-    record::with_steering(e, adjust(e.steering, j))
+    let j = words::adjustment_in(e.words);
+    record::with_steering(e, clock::adjust(e.steering, j))
 }
 
 // Op 2, the write by its selector; 16 writes nothing.

@@ -14,7 +14,8 @@ use borrow.Author.Tests.{eqb-true, eqb-false, eq-eqb}
 use Rattle.model.specs.Text.{bytes}
 use Rattle.model.specs.Sheet.{startsWith}
 use Rattle.model.proofs.Laws.Tests.{both}
-use Rattle.sheet.specs.Reading.{tickLine, pairAt, fourAt, eightAt}
+use Rattle.values.specs.Bytes.{pairAt, fourAt, eightAt}
+use Rattle.sheet.specs.Reading.{tickLine}
 use Rattle.sheet.proofs.FirstLine.{starts-length}
 
 -- "0,0,0,0," as a number

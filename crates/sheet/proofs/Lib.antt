@@ -6,5 +6,5 @@ pub mod Rows
 pub mod Eights
 pub mod Ticks
 pub mod Digits
-pub mod Runs
+pub mod TicksLines
 pub mod Body

@@ -1,19 +1,17 @@
-// Reading a command sheet: the value line at an index of the caller's slice, and the sheet as a whole, numbers 1 to 3.
-// Each function returns a definition of the model's specs/Text.antt and specs/Sheet.antt. Document 01, "Command
-// sheet".
+// Reading a command sheet: the value line at an index, and the sheet as a whole, numbers 1 to 3. Each function returns
+// a definition of the model's specs/Text.antt and specs/Sheet.antt. Document 01, "Command sheet".
 ghost use mathlib.Core.Path.{_≡_};
 ghost use mathlib.Core.Bool.{true};
 ghost use Prim.Native.Nat.{_+_, _^_, _≤_, _<_};
 ghost use lib.ListN.{length, drop};
 ghost use Rattle.model.specs.Text.{lineEnd, parts};
-ghost use Rattle.model.specs.Sheet.{startsWith, commandOf, noLine, lineOf, refusedAt, bodyVerdict};
-ghost use Rattle.model.specs.Sheet.{sheetVerdict};
-ghost use Rattle.sheet.specs.Reading.{tickLine, pairAt, fourAt, eightAt, beginsRun, runLineTo, RunAt};
-ghost use Rattle.sheet.specs.Reading.{linePart, ReadAt};
-use bits::join;
+ghost use Rattle.model.specs.Sheet.{startsWith, commandOf, noLine, lineOf, refusedAt, bodyVerdict, sheetVerdict};
+ghost use Rattle.sheet.specs.Reading.{tickLine, begunAt, ticksLineTo, TicksAt, linePart, ReadAt};
 use model::Command;
 use model::Line;
 use model::Verdict;
+use values::eight_at;
+use values::pair_at;
 use values::read_value;
 use values::run_length;
 use values::take_value;
@@ -25,7 +23,12 @@ const FIRST_LINE: [u8; 19] = *b"op,a,b,c,d,e,f,g,h\n";
 // "0,0,0,0," as a number, the first byte lowest.
 const FOUR_ZEROS: u64 = 0x2C30_2C30_2C30_2C30;
 
-// What stands behind a run's value, ",0,0,0,0,0,0,0" and the line end, as two numbers: its first eight bytes and its
+// "9," and "10" as numbers, the first byte lowest: the ops that have a number of ticks.
+const NINE_COMMA: u64 = 0x2C39;
+
+const TEN: u64 = 0x3031;
+
+// What stands behind that number, ",0,0,0,0,0,0,0" and the line end, as two numbers: its first eight bytes and its
 // last eight, which share one.
 const ZEROS_BEHIND: u64 = 0x302C_302C_302C_302C;
 
@@ -89,31 +92,7 @@ fn starts_with(s: &[u8], head: &[u8]) -> bool
     true
 }
 
-// The bytes from an index on as a number, the first lowest: two, four or eight of them, which are read and compared at
-// once.
-fn pair_at(s: &[u8], at: usize) -> u64
-    requires { ⌜ at + 2 ≤ length (now s) ⌝ }
-    ensures { λ r. ⌜ (r ≡ pairAt (now (s .entry)) at) × (r < 2 ^ 16) ⌝ }
-{
-    join(wide(s[at + 1]), wide(s[at]), 8)
-}
-
-fn four_at(s: &[u8], at: usize) -> u64
-    requires { ⌜ at + 4 ≤ length (now s) ⌝ }
-    ensures { λ r. ⌜ (r ≡ fourAt (now (s .entry)) at) × (r < 2 ^ 32) ⌝ }
-{
-    join(pair_at(s, at + 2), pair_at(s, at), 16)
-}
-
-fn eight_at(s: &[u8], at: usize) -> u64
-    requires { ⌜ at + 8 ≤ length (now s) ⌝ }
-    ensures { λ r. ⌜ r ≡ eightAt (now (s .entry)) at ⌝ }
-{
-    join(four_at(s, at + 4), four_at(s, at), 32)
-}
-
-// A tick without inputs stands at this index: most lines of a sheet are such. Its line is "0,0,0,0," twice, a last 0
-// and the line end.
+// A tick without inputs stands at this index, as in most lines: "0,0,0,0," twice, a last 0 and the line end.
 pub fn is_tick_at(s: &[u8], at: usize) -> bool
     requires { ⌜ at ≤ length (now s) ⌝ }
     ensures { λ r. ⌜ r ≡ startsWith tickLine (drop at (now (s .entry))) ⌝ }
@@ -168,36 +147,56 @@ pub struct Next {
     pub end: usize,
 }
 
-// "9," stands at this index, with 18 bytes or more from there on, as every value line has.
-fn is_run_at(s: &[u8], at: usize) -> bool
-    requires { ⌜ at ≤ length (now s) ⌝ }
-    ensures { λ r. ⌜ r ≡ beginsRun (drop at (now (s .entry))) ⌝ }
-{
-    if s.len() - at < 18 {
-        return false;
-    }
-    if s[at] != 57 {
-        return false;
-    }
-    s[at + 1] == 44
+// How a value line begins that has nothing but a number of ticks: the op, 9 or 10, and where the number begins; op 0
+// where it begins otherwise.
+pub struct Begun {
+    pub op: u64,
+    pub from: usize,
 }
 
-fn run_line_to(ok: bool, a: u64, end: usize) -> Next
-    ensures { λ r. ⌜ r ≡ runLineTo ok a end ⌝ }
+fn begun_at(s: &[u8], at: usize) -> Begun
+    requires { ⌜ at ≤ length (now s) ⌝ }
+    ensures { λ r. ⌜ r ≡ begunAt (drop at (now (s .entry))) at ⌝ }
+{
+    // fewer bytes than every value line has
+    if s.len() - at < 18 {
+        return Begun { op: 0, from: at };
+    }
+    let pair = pair_at(s, at);
+    if pair == NINE_COMMA {
+        return Begun {
+            op: 9,
+            from: at + 2,
+        };
+    }
+    if pair != TEN {
+        return Begun { op: 0, from: at };
+    }
+    if s[at + 2] != 44 {
+        return Begun { op: 0, from: at };
+    }
+    Begun {
+        op: 10,
+        from: at + 3,
+    }
+}
+
+fn ticks_line_to(ok: bool, op: u64, a: u64, end: usize) -> Next
+    ensures { λ r. ⌜ r ≡ ticksLineTo ok op a end ⌝ }
 {
     Next {
         line: Line {
             ok: ok,
-            command: command_of([9, a, 0, 0, 0, 0, 0, 0, 0]),
+            command: command_of([op, a, 0, 0, 0, 0, 0, 0, 0]),
         },
         end: end,
     }
 }
 
-// The run line whose value begins here, behind "9,": up to seven digits, the first not 0, then zeros; or not ok.
-fn run_at(s: &[u8], from: usize) -> Next
-    requires { ⌜ from + 16 ≤ length (now s) ⌝ }
-    ensures { λ r. ⌜ (r .line .ok ≡ true → RunAt (now (s .entry)) from r) ⌝ }
+// The line of this op whose number begins here: up to seven digits, the first not 0, then zeros; or not ok.
+fn ticks_line_at(s: &[u8], from: usize, op: u64) -> Next
+    requires { ⌜ from + 15 ≤ length (now s) ⌝ }
+    ensures { λ r. ⌜ (r .line .ok ≡ true → TicksAt op (now (s .entry)) from r) ⌝ }
 {
     let mut v: u64 = 0;
     let mut i = from;
@@ -213,30 +212,32 @@ fn run_at(s: &[u8], from: usize) -> Next
         i += 1;
     }
     if s.len() - i < 15 {
-        return run_line_to(false, 0, i);
+        return ticks_line_to(false, op, 0, i);
     }
     // no digit at all, or a 0 in front
     if s[from] < 49 {
-        return run_line_to(false, 0, i);
+        return ticks_line_to(false, op, 0, i);
     }
     if eight_at(s, i) != ZEROS_BEHIND {
-        return run_line_to(false, 0, i);
+        return ticks_line_to(false, op, 0, i);
     }
     if eight_at(s, i + 7) != ZEROS_TO_END {
-        return run_line_to(false, 0, i);
+        return ticks_line_to(false, op, 0, i);
     }
-    run_line_to(true, v, i + 14)
+    ticks_line_to(true, op, v, i + 14)
 }
 
-// The value line at an index. A last line with no line end is none. A run of up to seven digits is read at once.
+// The value line at an index, without a line end none. A number of ticks of up to seven digits is read at once.
 pub fn read_at(s: &[u8], at: usize) -> Next
     requires { ⌜ at ≤ length (now s) ⌝ }
     ensures { λ r. ⌜ ReadAt (now (s .entry)) at r ⌝ }
 {
-    if is_run_at(s, at) {
-        let run = run_at(s, at + 2);
-        if run.line.ok {
-            return run;
+    let begun = begun_at(s, at);
+    if begun.op != 0 {
+        let from = begun.from;
+        let ticks = ticks_line_at(s, from, begun.op);
+        if ticks.line.ok {
+            return ticks;
         }
     }
     let line = line_at(s, at);

@@ -1,3 +1,4 @@
--- One digit more, and the value at an index.
+-- Bytes as a number, one digit more, and the value at an index.
+pub mod Bytes
 pub mod Digits
 pub mod Taking

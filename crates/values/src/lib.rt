@@ -1,11 +1,14 @@
 // One value of a command sheet: decimal digits without leading zeros, below 2^64, by itself or at an index of a line,
-// up to its comma. Each function returns a definition of the model's specs/Text.antt. Document 01, "Command sheet".
+// up to its comma; and some bytes as a number. Each function returns a definition of the model's specs/Text.antt or of
+// specs/. Document 01, "Command sheet".
 ghost use mathlib.Core.Path.{_≡_};
-ghost use Prim.Native.Nat.{_<_, _≤_};
+ghost use Prim.Native.Nat.{_+_, _^_, _<_, _≤_};
 ghost use lib.ListN.{length};
 ghost use Rattle.model.specs.Text.{noValue, leadsWell, valueOf};
+ghost use Rattle.values.specs.Bytes.{pairAt, fourAt, eightAt};
 ghost use Rattle.values.specs.Digits.{digitAfter};
 ghost use Rattle.values.specs.Taking.{RunTo, DigitAt, TwoAt, TakenAt};
+use bits::join;
 use model::Value;
 
 fn no_value() -> Value
@@ -187,4 +190,27 @@ pub fn take_value(s: &[u8], at: usize) -> Taken
     }
     let value = read_value(&s[at..end]);
     value_to(value.ok, value.number, end)
+}
+
+// The bytes from an index on as a number, the first lowest: two, four or eight of them, which are read and compared at
+// once.
+pub fn pair_at(s: &[u8], at: usize) -> u64
+    requires { ⌜ at + 2 ≤ length (now s) ⌝ }
+    ensures { λ r. ⌜ (r ≡ pairAt (now (s .entry)) at) × (r < 2 ^ 16) ⌝ }
+{
+    join(wide(s[at + 1]), wide(s[at]), 8)
+}
+
+fn four_at(s: &[u8], at: usize) -> u64
+    requires { ⌜ at + 4 ≤ length (now s) ⌝ }
+    ensures { λ r. ⌜ (r ≡ fourAt (now (s .entry)) at) × (r < 2 ^ 32) ⌝ }
+{
+    join(pair_at(s, at + 2), pair_at(s, at), 16)
+}
+
+pub fn eight_at(s: &[u8], at: usize) -> u64
+    requires { ⌜ at + 8 ≤ length (now s) ⌝ }
+    ensures { λ r. ⌜ r ≡ eightAt (now (s .entry)) at ⌝ }
+{
+    join(four_at(s, at + 4), four_at(s, at), 32)
 }

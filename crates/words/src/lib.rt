@@ -6,8 +6,10 @@ ghost use Prim.Native.Nat.{_≤_};
 ghost use Rattle.model.specs.Bounds.{WordsIn};
 ghost use Rattle.model.specs.Words.{secondsIn, nanosecondsIn, aboveNanoseconds, timeWords, noWords};
 ghost use Rattle.model.specs.Words.{wholeIn, fracIn, amountIn, belowFrac, countIn};
+ghost use Rattle.model.specs.Orders.{adjustmentIn};
 use bits::field;
 use bits::join;
+use model::Adjustment;
 use model::Words;
 
 // Write 0, TIME: sec 15:0 | 31:16 | 47:32 | NS 15:0 | NS 29:16.
@@ -67,6 +69,17 @@ pub fn count_in(w: Words) -> u64
     ensures { λ r. ⌜ r ≡ countIn w ⌝ }
 {
     join(field(w.w3, 0, 8), w.w2, 16)
+}
+
+// Write 2: the adjustment.
+pub fn adjustment_in(w: Words) -> Adjustment
+    requires { ⌜ WordsIn w ⌝ }
+    ensures { λ r. ⌜ r ≡ adjustmentIn w ⌝ }
+{
+    Adjustment {
+        amount: amount_in(w),
+        cycles: count_in(w),
+    }
 }
 
 // Reads: sec 15:0 | 31:16 | 47:32 | NS 15:0 | EDGE, 0, NS 29:16.

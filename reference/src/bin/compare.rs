@@ -4,7 +4,7 @@
 //!     compare [COMMANDS [SEED]]
 use reference::ledger::Ledger;
 use reference::random::Random;
-use reference::tally::{Runs, Waits};
+use reference::tally::{Previews, Runs, Waits};
 use reference::{sheet, tuned_sheet};
 use std::sync::atomic::{AtomicU64, Ordering};
 
@@ -31,7 +31,7 @@ fn main() {
     let seed = args.get(1).copied().unwrap_or(1);
     // SAFETY: they take nothing.
     let (version, room) = unsafe { (lendaru_sheet_version(), lendaru_results_room()) };
-    assert_eq!(version, 2);
+    assert_eq!(version, 3);
     std::panic::set_hook(Box::new(|why| {
         eprintln!("{why}\nTo see it again: compare 1 {}", SEED.load(Ordering::Relaxed));
     }));
@@ -39,7 +39,7 @@ fn main() {
     let mut out = vec![0; room + 16];
     let (mut told, mut text) = (Vec::new(), Vec::new());
     let mut answers = [0u64; 16];
-    let (mut runs, mut waits) = (Runs::default(), Waits::default());
+    let (mut runs, mut waits, mut previews) = (Runs::default(), Waits::default(), Previews::default());
     let (mut commands, mut sheets) = (0u64, 0u64);
     while commands < most {
         SEED.store(random.0, Ordering::Relaxed);
@@ -51,6 +51,7 @@ fn main() {
             ledger.holds(e.shown(), e.remainder());
             answers[o.answer as usize] += 1;
             runs.told(c, o);
+            previews.told(c, o);
             waits.told(c, o, before, e.adjustments());
             before = e.adjustments();
             commands += 1;
@@ -73,4 +74,5 @@ fn main() {
     println!("answers 0 to 15: {answers:?}");
     println!("{runs}");
     println!("{waits}");
+    println!("{previews}");
 }

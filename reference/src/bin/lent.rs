@@ -6,7 +6,7 @@
 use reference::engine::{Command, Engine, Outcome};
 use reference::random::Random;
 use reference::record::{Adjustment, Record, CONDITIONS, NUMBERS};
-use reference::tally::{Runs, Waits};
+use reference::tally::{Previews, Runs, Waits};
 use std::sync::atomic::{AtomicU64, Ordering};
 
 /// The seed from which the present engine's life is made.
@@ -31,6 +31,7 @@ struct Counts {
     answers: [u64; 16],
     runs: Runs,
     waits: Waits,
+    previews: Previews,
     /// calls of `lendaru_run`
     called: u64,
     /// malformed records by the condition of number 4 that they meet, where they meet only one
@@ -141,6 +142,7 @@ fn live(random: &mut Random, counts: &mut Counts) {
             assert_eq!(lent, engine.record(), "the record after {c:?} on {damaged:?}");
             counts.answers[expected.answer as usize] += 1;
             counts.runs.told(&c, &expected);
+            counts.previews.told(&c, &expected);
             counts.waits.told(&c, &expected, before, engine.adjustments());
         }
     }
@@ -161,11 +163,12 @@ fn main() {
         live(&mut random, &mut counts);
         lives += 1;
     }
-    let Counts { commands, malformed, valid, answers, runs, waits, called, faults } = counts;
+    let Counts { commands, malformed, valid, answers, runs, waits, previews, called, faults } = counts;
     println!("{commands} commands on {lives} lent records, seed {seed}: every reply and every record equal");
     println!("damaged before a command: {malformed} malformed, {valid} still valid");
     println!("answers 0 to 15: {answers:?}");
     println!("{runs}; by lendaru_run {called}, malformed records included");
     println!("{waits}");
+    println!("{previews}");
     println!("malformed by one condition of number 4 alone, in its order: {faults:?}");
 }

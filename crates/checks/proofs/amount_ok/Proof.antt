@@ -1,4 +1,5 @@
 -- The table's test of 9.
+use mathlib.Core.Bool.{or-false}
 use borrow.Author.Needs.{needs}
 use Rattle.model.specs.Checks.{checks}
 use Rattle.checks.proofs.amount_ok.Statement.{statement}
@@ -18,6 +19,8 @@ returns c =
       p .either .ensures,
       p .before .writes2 .ensures,
       p .before .before .writes .ensures,
+      p .before .before .before .pre,
+      or-false,
     )
 
 pub amount-ok-spec : {M : Type 1} → statement M

@@ -21,14 +21,29 @@ returns c =
       at6 .before .before .time-left .ensures,
       at6 .before .before .before .fields-ok .ensures,
     )
-    (answer-of-others (start .args .e) (start .args .c) (start .pre) (other .0) (other .1))
+    (answer-of-others (start .args .e) (start .args .c) (start .pre .0) (start .pre .1) (other .0) (other .1))
+
+amount-ok-requires : tie.Need-amount-ok-requires
+amount-ok-requires c κs =
+    let at6 = c .before .before .before .before .before .before in
+    at6 .before .before .before .before .before .pre .1
+
+count-ok-requires : tie.Need-count-ok-requires
+count-ok-requires c κs =
+    let at6 = c .before .before .before .before .before .before .before in
+    at6 .before .before .before .before .before .pre
+
+waiting-free-requires : tie.Need-waiting-free-requires
+waiting-free-requires c κs =
+    let at6 = c .before .before .before .before .before .before .before .before in
+    at6 .before .before .before .before .before .pre .1
 
 start-ahead-requires : tie.Need-start-ahead-requires
 start-ahead-requires c κs =
     let count = c .before .before .before .before .before in
     let test = count .before .before .before .before in
     let at6 = test .before .before .before .before in
-    at6 .before .before .before .before .before .pre
+    at6 .before .before .before .before .before .pre .0
 
 returns-2 : tie.Need-returns-2
 unfolding checks
@@ -61,12 +76,12 @@ returns-2 c =
       at6 .before .before .time-left .ensures,
       at6 .before .before .before .fields-ok .ensures,
     )
-    (answer-found _ _ (start .pre))
+    (answer-found _ _ (start .pre .0))
 
 pub answer-spec : {M : Type 1} → statement M
 answer-spec =
     tie.close
     (tie.spec (search needs) (λ c κs. search needs) (search needs) (search needs) (search needs) (search needs) returns
-    (search needs) (λ c κs. search needs) (search needs) (λ c κs. search needs) (search needs) (search needs)
+    (search needs) (λ c κs. search needs) amount-ok-requires count-ok-requires waiting-free-requires (search needs)
     (search needs) start-ahead-requires (search needs) (search needs) (search needs) (search needs) (search needs)
     (search needs) (search needs) (search needs) (search needs) returns-2)

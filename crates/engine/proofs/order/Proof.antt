@@ -1,4 +1,4 @@
--- A run, or the checks and then the op.
+-- A run, a preview, or the checks and then the op.
 use mathlib.Core.Path.{_∙_, sym}
 use borrow.Author.Needs.{needs}
 use borrow.Author.Tests.{ne-eqb}
@@ -12,25 +12,38 @@ run-requires c κs = (c .before .before .pre .0, c .if1 .taken)
 returns : tie.Need-returns
 returns c = c .run .ensures
 
-perform-requires : tie.Need-perform-requires
-perform-requires c κs = record {
-  passed = sym (c .before .answer .ensures) ∙ c .if2 .taken;
-  order = c .before .before .before .before .pre .1;
-  noRun = ne-eqb _ _ (c .before .before .if1 .left);
-}
+preview-requires : tie.Need-preview-requires
+preview-requires c κs = (c .before .before .before .before .pre .0, c .if2 .taken)
 
 returns-2 : tie.Need-returns-2
-returns-2 c =
-    accepted-gives _ _ (sym (c .before .before .answer .ensures) ∙ c .before .if2 .taken) (c .perform .ensures)
+returns-2 c = c .preview .ensures
+
+answer-requires : tie.Need-answer-requires
+answer-requires c κs = (c .before .before .before .before .pre .0, ne-eqb _ _ (c .if2 .left))
+
+perform-requires : tie.Need-perform-requires
+perform-requires c κs =
+    let preview = c .before .before in
+    let run = preview .before .before in
+    record {
+      passed = sym (c .before .answer .ensures) ∙ c .if3 .taken;
+      order = run .before .before .pre .1;
+      noRun = ne-eqb _ _ (run .if1 .left);
+      noPreview = ne-eqb _ _ (preview .if2 .left);
+    }
 
 returns-3 : tie.Need-returns-3
 returns-3 c =
+    accepted-gives _ _ (sym (c .before .before .answer .ensures) ∙ c .before .if3 .taken) (c .perform .ensures)
+
+returns-4 : tie.Need-returns-4
+returns-4 c =
     let test = c .before .before in
     rw (c .change-to .ensures, c .before .no-words .ensures)
-    (order-refused _ _ _ (test .before .answer .ensures) (test .if2 .left))
+    (order-refused _ _ _ (test .before .answer .ensures) (test .if3 .left))
 
 pub order-spec : {M : Type 1} → statement M
 order-spec =
     tie.close
-    (tie.spec run-requires returns (λ c κs. search needs) perform-requires returns-2 (search needs) (search needs)
-    returns-3)
+    (tie.spec run-requires returns preview-requires returns-2 answer-requires perform-requires returns-3
+    (search needs) (search needs) returns-4)

@@ -1,5 +1,5 @@
--- One arm for each row of the table of ops but those of ticks and runs; an accepted op with no arm of its own is op 8.
--- None but op 2 moves a FIFO.
+-- One arm for each row of the table of ops but those of ticks, runs and previews; an accepted op with no arm of its own
+-- is op 8. None but op 2 moves a FIFO.
 use mathlib.Core.Path.{refl}
 use borrow.Author.Needs.{needs}
 use Rattle.model.specs.Orders.{interruptsRead}
@@ -19,8 +19,7 @@ returns-5 c = rw (c .read-interrupts .ensures) (stays-gives _ _ 5 (c .before .ma
 
 returns-8 : tie.Need-returns-8
 returns-8 c =
-    let start = c .before .before in
-    let op = last-op _ _ (start .pre .passed) (start .pre .order) (start .pre .noRun) (c .before .match .rest) in
+    let op = last-op _ _ (c .before .before .pre) (c .before .match .rest) in
     rw (c .show-words .ensures) (stays-gives _ _ 8 op refl refl refl refl)
 
 pub perform-spec : {M : Type 1} → statement M

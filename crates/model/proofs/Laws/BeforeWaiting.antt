@@ -20,12 +20,13 @@ use Rattle.model.specs.Record.{powerOn}
 use Rattle.model.specs.Tick.{tickEngine, noInputs, ticks}
 use Rattle.model.specs.RunLine.{run, ran}
 use Rattle.model.specs.Orders.{adjustWritten, written, readEngine, commanded, interruptsRead}
+use Rattle.model.specs.Preview.{previewed}
 use Rattle.model.specs.Ops.{performed}
-use Rattle.model.specs.Checks.{isOp, writes, table, checked, checks, answerOf}
+use Rattle.model.specs.Checks.{adjusts, table, checked, checks, answerOf}
 use Rattle.model.specs.Execute.{execute}
 use Rattle.model.specs.Run.{Entry, entryOf, engineBy, historyBy, engineFrom, historyFrom}
 use Rattle.model.specs.BeforeWaiting.{noneRuns, tableBefore, answerBefore, executeBefore, noneGot11}
-use Rattle.model.proofs.Laws.Tests.{split, both, both-true, or-right, asked, Numbered, answer-none}
+use Rattle.model.proofs.Laws.Tests.{split, both, or-right, asked, Numbered, answer-none}
 use Rattle.model.proofs.Laws.Checks.{accepted-facts, by-op, by-write}
 use Rattle.model.proofs.Laws.RunTicks.{ran-ticks}
 
@@ -54,16 +55,16 @@ Free e = e .steering .waiting ≡ noAdjustment
 
 module _ (e : Engine) (c : Command) (free : Free e) where
   now : Check
-  now = check 11 (writes 2 c) (eqb (e .steering .waiting .cycles) 0)
+  now = check 11 (adjusts c) (eqb (e .steering .waiting .cycles) 0)
 
   now-holds : now .holds ≡ true
   unfolding now
-  now-holds = or-right (not (writes 2 c)) _ (eq-eqb _ 0 (ap (λ (j : Adjustment). j .cycles) free))
+  now-holds = or-right (not (adjusts c)) _ (eq-eqb _ 0 (ap (λ (j : Adjustment). j .cycles) free))
 
   same-answer : (answerBefore e c ≡ 11 → ⊥) → answerOf e c ≡ answerBefore e c
   unfolding answerOf checks answerBefore now
   same-answer n =
-      swap (checked e c (take 7 table)) now (check 11 (writes 2 c) (noneRuns .asks e c)) (checked e c (drop 8 table))
+      swap (checked e c (take 7 table)) now (check 11 (adjusts c) (noneRuns .asks e c)) (checked e c (drop 8 table))
       now-holds refl n
 
   pub same-outcome : (answerBefore e c ≡ 11 → ⊥) → execute e c ≡ executeBefore e c
@@ -74,7 +75,7 @@ module _ (e : Engine) (c : Command) (free : Free e) where
 numbered-before : (e : Engine) (c : Command) → Numbered 4 (checked e c tableBefore)
 numbered-before e c = omega arith
 
-none-ran : (e : Engine) (c : Command) → answerBefore e c ≡ 0 → writes 2 c ≡ true
+none-ran : (e : Engine) (c : Command) → answerBefore e c ≡ 0 → adjusts c ≡ true
     → eqb (e .steering .adjustment .cycles) 0 ≡ true
 unfolding answerBefore
 none-ran e c h w = asked _ _ (answer-none 3 (checked e c tableBefore) (numbered-before e c) h 7) w
@@ -135,6 +136,7 @@ unfolding interruptsRead
 interrupts-free e free = free
 
 performed-free : (e : Engine) (c : Command) → Free e → answerBefore e c ≡ 0 → Free (performed e c .engine)
+unfolding previewed
 performed-free e c free h =
     let passed : answerOf e c ≡ 0 = same-answer e c free (λ z. omega arith) ∙ h in
     by-op (λ (x : Outcome). Free (x .engine)) e c (accepted-facts e c passed .op)
@@ -149,10 +151,11 @@ performed-free e c free h =
       status = λ o. free;
       show = λ o. free;
       run = λ o. run-free (c .a) e free;
+      preview = λ o. free;
     })
   where
-    writes-adjust : c .op ≡ 2 → c .a ≡ 2 → writes 2 c ≡ true
-    writes-adjust o a = both-true (isOp 2 c) (eqb (c .a) 2) (eq-eqb _ 2 o) (eq-eqb _ 2 a)
+    writes-adjust : c .op ≡ 2 → c .a ≡ 2 → adjusts c ≡ true
+    writes-adjust o a = rw (o, a) refl
 
 execute-free : (e : Engine) (c : Command) → Free e → Free (executeBefore e c .engine)
 unfolding executeBefore

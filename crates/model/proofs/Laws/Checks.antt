@@ -2,9 +2,9 @@
 -- where it applies, is then a fact.
 use Prim.Native.Nat.{ℕ, _+_, _*_, _-_, _<_, _≤_}
 use mathlib.Core.Path.{_≡_, refl, sym, ap, _∙_}
-use mathlib.Core.Bool.{true, false, _||_, not, Bool, _&&_, and-false}
+use mathlib.Core.Bool.{Bool, true, false, not, true≢false}
 use native.Mathlib.Omega.{arith}
-use lib.Dec.{eqb, leb}
+use lib.Dec.{eqb}
 use lib.ListN.{length, getD}
 use borrow.Author.Tests.{ltb-true, leb-true, eqb-true, eqb-false, eq-eqb, ne-eqb}
 use Rattle.model.specs.declared.Engine.{Engine}
@@ -19,6 +19,7 @@ use Rattle.model.specs.Outcome.{refused, accepted}
 use Rattle.model.specs.Tick
 use Rattle.model.specs.RunLine
 use Rattle.model.specs.Orders
+use Rattle.model.specs.Preview
 use Rattle.model.specs.Ops
 use Rattle.model.specs.Ranges.{valid}
 use Rattle.model.specs.Fields
@@ -41,13 +42,13 @@ pub record Accepted (e : Engine) (c : Command) : Type 0 where
   pub check8 : Checks.writes 0 c ≡ true
       → (Words.nanosecondsIn (e .words) ≤ 999999999) × (Words.aboveNanoseconds (e .words) ≡ 0)
   pub check9 : Checks.writesAmount c ≡ true → 1 ≤ Words.wholeIn (e .words)
-  pub check9byte : Checks.writes 1 c ≡ true → Words.belowFrac (e .words) ≡ 0
-  pub check10 : Checks.writes 2 c ≡ true → 1 ≤ Words.countIn (e .words)
-  pub check11 : Checks.writes 2 c ≡ true → e .steering .waiting .cycles ≡ 0
+  pub check10 : Checks.adjusts c ≡ true → 1 ≤ Words.countIn (e .words)
+  pub check11 : Checks.adjusts c ≡ true → e .steering .waiting .cycles ≡ 0
   pub check12 : Checks.isOp 3 c ≡ true → c .e < c .f
   pub check13 : Checks.isOp 3 c ≡ true → not (isRunning (Record.generator e (c .a))) ≡ true
   pub check14 : Checks.isOp 3 c ≡ true → shown (e .clock) ≤ (c .b * 1000000000 + c .c) * 256
   pub check15 : Checks.ticksFirst c ≡ true → Tick.endsInTime e ≡ true
+  pub check15previewed : c .op ≡ 10 → Tick.inTimeFor (c .a) (Orders.adjustWritten e) ≡ true
 
 -- ops 0 and 9 begin with a tick
 pub tick-first : (c : Command) → c .op ≡ 0 → Checks.ticksFirst c ≡ true
@@ -56,18 +57,20 @@ tick-first c o = rw o refl
 pub run-first : (c : Command) → c .op ≡ 9 → Checks.ticksFirst c ≡ true
 run-first c o = rw o refl
 
--- a PERIOD write is no adjust write, so that check 9 asks for its byte too
-only-period : (c : Command) → Checks.writes 1 c ≡ true → Checks.writes 2 c ≡ false
-only-period c h =
-    let one = both (Checks.isOp 2 c) (eqb (c .a) 1) h .1 in
-    rw (ne-eqb (c .a) 2 (λ z. omega (arith, eqb-true))) (and-false (Checks.isOp 2 c))
+-- what 15 asks of an op that begins with a tick, and of a preview
+first-asked : (e : Engine) (c : Command) → Checks.passes e c 15 ≡ true → Checks.ticksFirst c ≡ true
+    → Tick.endsInTime e ≡ true
+unfolding Checks.checks
+first-asked e c h first = by (Checks.isOp 10 c) refl (asked (Checks.isTicking c) _ h (rw first refl))
+  where
+    by : (b : Bool) → Checks.isOp 10 c ≡ b → Checks.inTime b e (c .a) ≡ true → Tick.endsInTime e ≡ true
+    by true o t = absurd (true≢false (sym first ∙ rw (eqb-true (c .op) 10 o) refl))
+    by false o t = t
 
-byte-asked : (period adjust whole byte : Bool) → (not (period || adjust) || (whole && (adjust || byte))) ≡ true
-    → period ≡ true → adjust ≡ false → byte ≡ true
-byte-asked true true whole byte h p a = cc
-byte-asked true false true byte h p a = h
-byte-asked true false false byte h p a = cc
-byte-asked false adjust whole byte h p a = cc
+preview-asked : (e : Engine) (c : Command) → Checks.passes e c 15 ≡ true → c .op ≡ 10
+    → Tick.inTimeFor (c .a) (Orders.adjustWritten e) ≡ true
+unfolding Checks.checks
+preview-asked e c h o = rw o at h
 
 pub accepted-facts : (e : Engine) (c : Command) → Checks.answerOf e c ≡ 0 → Accepted e c
 unfolding Checks.answerOf Checks.checks
@@ -82,14 +85,13 @@ accepted-facts e c h =
       check7 = asked _ _ (passed 7);
       check8 = λ a. let p = both _ _ (asked _ _ (passed 8) a) in (leb-true _ _ (p .0), eqb-true _ _ (p .1));
       check9 = λ a. leb-true _ _ (both _ _ (asked _ _ (passed 9) a) .0);
-      check9byte = λ a.
-          eqb-true _ _ (byte-asked _ _ (leb 1 (Words.wholeIn (e .words))) _ (passed 9) a (only-period c a));
       check10 = λ a. leb-true _ _ (asked _ _ (passed 10) a);
       check11 = λ a. eqb-true _ _ (asked _ _ (passed 11) a);
       check12 = λ a. ltb-true _ _ (asked _ _ (passed 12) a);
       check13 = asked _ _ (passed 13);
       check14 = λ a. leb-true _ _ (asked _ _ (passed 14) a);
-      check15 = asked _ _ (passed 15);
+      check15 = first-asked e c (passed 15);
+      check15previewed = preview-asked e c (passed 15);
     }
 
 -- an outcome by the answer: a refusal with the number of the first failed check, or the op performed
@@ -120,13 +122,14 @@ pub record ByOp (P : Outcome → Type 0) (e : Engine) (c : Command) : Type 0 whe
   pub status : c .op ≡ 7 → P (accepted (Orders.justFirst (Orders.statusOf e)) e)
   pub show : c .op ≡ 8 → P (accepted (e .words) e)
   pub run : c .op ≡ 9 → P (RunLine.ran e (c .a))
+  pub preview : c .op ≡ 10 → P (Preview.previewed e (c .a))
 
 pub by-op : (P : Outcome → Type 0) (e : Engine) (c : Command) → c .op < length Ops.ops → ByOp P e c
     → P (Ops.performed e c)
 unfolding Ops.performed
 by-op P e c few by =
     by-row (λ n op. c .op ≡ n → P (op e c)) Ops.ops (c .op) Ops.unknown
-    (search depth 12) (λ n past o. absurd (omega arith)) refl
+    (search depth 13) (λ n past o. absurd (omega arith)) refl
 
 -- what a write leaves, by its selector
 pub record ByWrite (P : Engine → Type 0) (e : Engine) (selector : ℕ) : Type 0 where
@@ -142,7 +145,7 @@ by-write P e selector by =
     (search) (λ n past o. by .none (omega arith)) refl
 
 performed-answer : (e : Engine) (c : Command) → c .op < length Ops.ops → Ops.performed e c .answer ≡ 0
-unfolding Orders.commanded Orders.interruptsRead RunLine.ran
+unfolding Orders.commanded Orders.interruptsRead RunLine.ran Preview.previewed
 performed-answer e c few =
     by-op (λ (x : Outcome). x .answer ≡ 0) e c few
     (record {
@@ -156,6 +159,7 @@ performed-answer e c few =
       status = λ o. refl;
       show = λ o. refl;
       run = λ o. refl;
+      preview = λ o. refl;
     })
 
 -- the answer of an outcome is the number of the first failed check

@@ -104,7 +104,7 @@ silent e h = (
 )
 
 -- after n ticks the next tick ends at the time shown n + 1 cycles on, and has the edges that are below it
-exact-suc : (e : Engine) (n : ℕ)
+pub exact-suc : (e : Engine) (n : ℕ)
     → exact (e .clock) + amountOf (e .steering) n + cycleAmount (steeringBy (e .steering) n)
     ≡ exact (e .clock) + amountOf (e .steering) (suc n)
 exact-suc e n = rw Cycles.amount-suc (omega arith)
@@ -202,7 +202,7 @@ not-behind g now ok = by (Generator.isRunning g) refl
     by true r = le-ltb _ _ (running-in g now ok r .ahead)
     by false r = refl
 
-shown-start : (e : Engine) → Valid e → shownAfter e 0 ≡ shown (e .clock)
+pub shown-start : (e : Engine) → Valid e → shownAfter e 0 ≡ shown (e .clock)
 unfolding shownAfter
 shown-start e v = omega (arith, Cycles.amount-zero (e .steering), clock-in (e .clock) (v .clock) .remainder)
 

@@ -50,9 +50,9 @@ pub record ArmFields (c : Command) : Type 0 where
   pub count : c .g < 2 ^ 32
   pub mark : c .h ≤ 1
 
-pub record RunFields (c : Command) : Type 0 where
+pub record TicksFields (most : ℕ) (c : Command) : Type 0 where
   pub some : 1 ≤ c .a
-  pub few : c .a ≤ 1000000
+  pub few : c .a ≤ most
 
 module _ (c : Command) (ok : Fields.fieldsOk c ≡ true) where
   -- the tests of the list that the command's op has
@@ -74,5 +74,8 @@ module _ (c : Command) (ok : Fields.fieldsOk c ≡ true) where
   pub mask-bits : c .op ≡ 6 → onlyBits enabledMask (c .a) ≡ true
   mask-bits o = listed 6 o .0
 
-  pub run-fields : c .op ≡ 9 → RunFields c
+  pub run-fields : c .op ≡ 9 → TicksFields 1000000 c
   run-fields o = let f = listed 9 o in omega (arith, leb-true)
+
+  pub preview-fields : c .op ≡ 10 → TicksFields 1000 c
+  preview-fields o = let f = listed 10 o in omega (arith, leb-true)

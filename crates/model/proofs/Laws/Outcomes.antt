@@ -62,7 +62,7 @@ module _ (e : Engine) (c : Command) where
       (omega (arith, least (omega arith)), omega arith)
 
 -- from power-on every record is valid, so that number 4 never comes
-run-valid : (cs : List Command) (e : Engine) → valid e ≡ true → valid (engineFrom e cs) ≡ true
+pub run-valid : (cs : List Command) (e : Engine) → valid e ≡ true → valid (engineFrom e cs) ≡ true
 unfolding engineBy
 run-valid [] e v = v
 run-valid (c ∷ cs) e v = run-valid cs (execute e c .engine) (execute-valid e c v)

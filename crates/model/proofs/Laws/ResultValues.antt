@@ -1,7 +1,7 @@
 -- The values of an outcome are 16-bit words. A tick returns codes of at most 16, a read the words that it leaves in
 -- the record, which is valid again, op 8 the record's words, and the interrupt and status words have bits below 15;
--- a run returns its last tick's codes and its ticks, at most a million, in two words; every other value is 0. An answer
--- is the number of a check.
+-- a run returns its last tick's codes and its ticks, at most a million, in two words, a preview the words of a time;
+-- every other value is 0. An answer is the number of a check.
 use Prim.Native.Nat.{ℕ, zero, suc, _<_, _≤_}
 use mathlib.Core.Path.{_≡_}
 use mathlib.Core.Bool.{true}
@@ -19,6 +19,7 @@ use Rattle.model.specs.Generator.{placed, isDue}
 use Rattle.model.specs.Tick.{tickStep, tickValues, ticks}
 use Rattle.model.specs.RunLine.{run, ran}
 use Rattle.model.specs.Orders
+use Rattle.model.specs.Preview.{previewed}
 use Rattle.model.specs.Ops.{performed}
 use Rattle.model.specs.Ranges.{valid}
 use Rattle.model.specs.Bounds.{WordsIn}
@@ -26,6 +27,7 @@ use Rattle.model.specs.Checks.{lastNumber}
 use Rattle.model.specs.Execute.{execute}
 use Rattle.model.proofs.Laws.Tests.{split}
 use Rattle.model.proofs.Laws.Ranges.{Valid, valid-parts, words-in}
+use Rattle.model.proofs.Laws.Words.{time-words-in}
 use Rattle.model.proofs.Laws.Fields.{run-fields}
 use Rattle.model.proofs.Laws.Checks.{Accepted, by-answer, by-op}
 use Rattle.model.proofs.Laws.Interrupts.{interrupts-read, status-read}
@@ -81,6 +83,11 @@ ran-values-in e a few =
     let most = r .few in
     omega arith
 
+-- a preview returns the words of a time
+previewed-values-in : (e : Engine) (a : ℕ) → WordsIn (previewed e a .values)
+unfolding previewed Orders.readWords
+previewed-values-in e a = time-words-in _ _ 0 (omega arith)
+
 performed-values-in : (e : Engine) (c : Command) → Accepted e c → WordsIn (performed e c .values)
 performed-values-in e c k =
     let v = valid-parts e (k .valid) in
@@ -96,6 +103,7 @@ performed-values-in e c k =
       status = λ o w. let low = status-read e .above in omega arith;
       show = λ o w. words-in (e .words) (v .words);
       run = λ o w. ran-values-in e (c .a) (run-fields c (k .fields) o .few);
+      preview = λ o w. previewed-values-in e (c .a);
     })
     (performed-valid e c k)
 

@@ -26,16 +26,8 @@ use Rattle.model.proofs.Laws.Fields.{run-fields}
 use Rattle.model.proofs.Laws.Checks.{Accepted, tick-first, run-first, performed-row, execute-answer}
 use Rattle.model.proofs.Laws.Checks.{execute-accepted}
 use Rattle.model.proofs.Laws.RunTicks.{Ran, lastValues, no-codes, ran-ticks, ran-some, ticks-valid}
-use Rattle.model.proofs.Laws.Ticks.{tick-executed, ticks-executed}
+use Rattle.model.proofs.Laws.Ticks.{tick-executed, tick-late, ticks-executed}
 use Rattle.model.proofs.Laws.Elapse.{silent-elapsed}
-
--- a tick of a valid record without time left gets 15
-late : (e : Engine) → valid e ≡ true → endsInTime e ≡ false → answerOf e noInputs ≡ 15
-unfolding answerOf checks fieldsOk fieldTests
-late e v out = rw (v, out)
-
-tick-late : (e : Engine) → valid e ≡ true → endsInTime e ≡ false → execute e noInputs .answer ≡ 15
-tick-late e v out = execute-answer e noInputs ∙ late e v out
 
 module _ (e : Engine) (c : Command) (o : c .op ≡ 9) (h : execute e c .answer ≡ 0) where
   k : Accepted e c

@@ -3,7 +3,7 @@
 use Prim.Native.Nat.{ℕ, zero, suc, _<_}
 use mathlib.Core.Path.{_≡_, refl, ap, _∙_}
 use mathlib.Core.List.{[], _∷_}
-use mathlib.Core.Bool.{true}
+use mathlib.Core.Bool.{true, false}
 use native.Mathlib.Omega.{arith}
 use lib.ListN.{replicate}
 use Rattle.model.specs.declared.Engine.{Engine}
@@ -16,6 +16,7 @@ use Rattle.model.specs.Fields.{fieldTests, fieldsOk}
 use Rattle.model.specs.Checks.{checks, answerOf}
 use Rattle.model.specs.Execute.{execute}
 use Rattle.model.specs.Run.{engineBy, engineFrom}
+use Rattle.model.proofs.Laws.Checks.{execute-answer}
 use Rattle.model.proofs.Laws.Valid.{execute-valid}
 
 -- one op 0 without inputs
@@ -28,14 +29,22 @@ module _ (e : Engine) (v : valid e ≡ true) (near : endsInTime e ≡ true) wher
   unfolding execute performed
   tick-executed = rw tick-answer
 
-  tick-left : execute e noInputs .engine ≡ tickEngine e noInputs
+  pub tick-left : execute e noInputs .engine ≡ tickEngine e noInputs
   tick-left = ap (λ (o : Outcome). o .engine) tick-executed
 
-  tick-valid : valid (tickEngine e noInputs) ≡ true
+  pub tick-valid : valid (tickEngine e noInputs) ≡ true
   tick-valid = rw (← tick-left) (execute-valid e noInputs v)
 
+-- a tick of a valid record without time left gets 15
+late : (e : Engine) → valid e ≡ true → endsInTime e ≡ false → answerOf e noInputs ≡ 15
+unfolding answerOf checks fieldsOk fieldTests
+late e v out = rw (v, out)
+
+pub tick-late : (e : Engine) → valid e ≡ true → endsInTime e ≡ false → execute e noInputs .answer ≡ 15
+tick-late e v out = execute-answer e noInputs ∙ late e v out
+
 -- the first tick may be told off as well as the last
-first-of-ticks : (n : ℕ) (e : Engine) → ticks n (tickEngine e noInputs) ≡ ticks (suc n) e
+pub first-of-ticks : (n : ℕ) (e : Engine) → ticks n (tickEngine e noInputs) ≡ ticks (suc n) e
 unfolding ticks
 first-of-ticks zero e = refl
 first-of-ticks (suc n) e = ap (λ (x : Engine). tickEngine x noInputs) (first-of-ticks n e)

@@ -21,6 +21,7 @@ use Rattle.model.specs.Execute.{execute}
 use Rattle.model.specs.RunLine.{run}
 use Rattle.model.specs.RunLine as RunLine
 use Rattle.model.specs.Orders as Orders
+use Rattle.model.specs.Preview.{previewed}
 use Rattle.model.specs.Timestamps.{codeOn, fifoOn, bringsEdge, edgeInstant, edgeNs}
 use Rattle.model.specs.Timestamps.{timestampsOn, keepsTime, InOrder}
 use Rattle.model.proofs.Laws.Tests.{split, both, both-true}
@@ -111,7 +112,7 @@ time-written e c o a =
     both-true _ _ (both-true _ _ (eq-eqb _ _ o) (eq-eqb _ _ a)) (eq-eqb _ _ (commanded-accepted e (c .a) (c .b)))
 
 pub execute-later : (e : Engine) (c : Command) → writesTime c (execute e c) ≡ false → NotBack e (execute e c .engine)
-unfolding Orders.interruptsRead
+unfolding Orders.interruptsRead previewed
 execute-later e c =
     by-answer Good e c
     (λ n h. omega arith)
@@ -127,6 +128,7 @@ execute-later e c =
       status = λ o h. omega arith;
       show = λ o h. omega arith;
       run = λ o h. run-later e (c .a);
+      preview = λ o h. omega arith;
     }))
   where
     Good : Outcome → Type 0

@@ -18,6 +18,7 @@ use Rattle.model.specs.Interrupts.{onlyBits}
 use Rattle.model.specs.Record
 use Rattle.model.specs.RunLine
 use Rattle.model.specs.Orders
+use Rattle.model.specs.Preview.{previewed}
 use Rattle.model.specs.Ops
 use Rattle.model.specs.Ranges
 use Rattle.model.specs.Fields
@@ -39,6 +40,17 @@ use Rattle.model.proofs.Laws.Parts.{interrupts-in, interrupts-ok, none-
 use Rattle.model.proofs.Laws.Parts.{interrupts-valid, fifo-valid, fifo-at-ok, GeneratorOk, generator-valid}
 use Rattle.model.proofs.Laws.Tick.{tick-valid}
 use Rattle.model.proofs.Laws.RunTicks.{run-valid}
+
+-- an adjust write, where numbers 9 to 11 let it pass
+pub adjust-written-valid : (e : Engine) → Valid e → 1 ≤ Words.wholeIn (e .words) → 1 ≤ Words.countIn (e .words)
+    → e .steering .waiting .cycles ≡ 0
+    → Valid (Orders.adjustWritten e)
+adjust-written-valid e v whole count free =
+    let w = words-in (e .words) (v .words) in
+    let new : AdjustmentIn (Orders.adjustmentIn (e .words)) =
+    record { amount = amount-words-in (e .words) w whole; some = count; cycles = count-low (e .words) w }
+    in
+    steering-valid e _ v (adjusted-ok (e .steering) _ (v .steering) new free)
 
 -- op 2, the write
 module _ (e : Engine) (c : Command) (o : c .op ≡ 2) (k : Accepted e c) where
@@ -76,13 +88,9 @@ module _ (e : Engine) (c : Command) (o : c .op ≡ 2) (k : Accepted e c) where
 
   adjust-valid : c .a ≡ 2 → Valid (Orders.adjustWritten e)
   adjust-valid a =
-      let amount = amount-in (or-right (Checks.writes 1 c) _ (writes 2 a)) in
-      let n = k .check10 (writes 2 a) in
-      let new : AdjustmentIn (Orders.adjustmentIn (e .words)) =
-      record { amount = amount; some = n; cycles = count-low (e .words) w }
-      in
-      steering-valid e _ v
-      (adjusted-ok (e .steering) _ (v .steering) new (k .check11 (writes 2 a)))
+      let adjusts : Checks.adjusts c ≡ true = rw (o, a) refl in
+      adjust-written-valid e v (k .check9 (or-right (Checks.writes 1 c) _ adjusts)) (k .check10 adjusts)
+      (k .check11 adjusts)
 
   pub written-valid : Valid (Orders.written e (c .a))
   written-valid =
@@ -160,6 +168,7 @@ unfolding RunLine.ran
 ran-valid e a v = run-valid a e v
 
 pub performed-valid : (e : Engine) (c : Command) → Accepted e c → Valid (Ops.performed e c .engine)
+unfolding previewed
 performed-valid e c k =
     let v = valid-parts e (k .valid) in
     let i = interrupts-in (e .interrupts) (v .interrupts) in
@@ -175,6 +184,7 @@ performed-valid e c k =
       status = λ o. v;
       show = λ o. v;
       run = λ o. ran-valid e (c .a) v;
+      preview = λ o. v;
     })
 
 -- execute keeps a valid record valid

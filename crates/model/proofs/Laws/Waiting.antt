@@ -2,7 +2,8 @@
 -- leaves the steering alone, and a record that check 4 lets pass has no adjustment waiting while none runs.
 use Prim.Native.Nat.{ℕ, _+_, _≤_, _<_}
 use mathlib.Core.Path.{_≡_, refl, ap, _∙_}
-use mathlib.Core.Bool.{Bool, true, false, not, or-false}
+use mathlib.Core.Logic.{_⊎_, inl, inr}
+use mathlib.Core.Bool.{Bool, true, false, _||_, not, or-false}
 use native.Mathlib.Decide.{ℕ-discrete}
 use native.Mathlib.Omega.{arith}
 use lib.Dec.{eqb}
@@ -16,7 +17,7 @@ use Rattle.model.specs.Tick.{tickEngine}
 use Rattle.model.specs.Orders.{adjustmentIn, written, readEngine, commanded}
 use Rattle.model.specs.Ranges.{valid}
 use Rattle.model.specs.Bounds.{AdjustmentIn}
-use Rattle.model.specs.Checks.{isOp, writes, checks, answerOf, passes}
+use Rattle.model.specs.Checks.{isOp, writes, adjusts, checks, answerOf, passes}
 use Rattle.model.specs.Execute.{execute}
 use Rattle.model.proofs.Laws.Tests.{split, both, neither, or-right}
 use Rattle.model.proofs.Laws.Ranges.{SteeringIn, steering-in, adjustment-in, no-adjustment-in, valid-parts}
@@ -25,16 +26,23 @@ use Rattle.model.proofs.Laws.Checks.{performed-row, execute-answer, exe
 use Rattle.model.proofs.Laws.Interrupts.{tick-latches}
 use Rattle.model.proofs.Laws.Outcomes.{answer-cause, cause-answer}
 
--- 11: an adjust write that found the place taken
+-- a command that adjusts is an adjust write, or a preview
+pub adjusts-as : (c : Command) → adjusts c ≡ true → ((c .op ≡ 2) × (c .a ≡ 2)) ⊎ (c .op ≡ 10)
+adjusts-as c h = by (writes 2 c) refl h
+  where
+    by : (b : Bool) → writes 2 c ≡ b → (b || isOp 10 c) ≡ true → ((c .op ≡ 2) × (c .a ≡ 2)) ⊎ (c .op ≡ 10)
+    by true w h = let p = both (isOp 2 c) (eqb (c .a) 2) w in inl (eqb-true (c .op) 2 (p .0), eqb-true (c .a) 2 (p .1))
+    by false w h = inr (eqb-true (c .op) 10 h)
+
+-- 11: such a command that found the place taken
 pub eleven : (e : Engine) (c : Command) → execute e c .answer ≡ 11
-    → (c .op ≡ 2) × (c .a ≡ 2) × (0 < e .steering .waiting .cycles)
+    → (0 < e .steering .waiting .cycles) × (((c .op ≡ 2) × (c .a ≡ 2)) ⊎ (c .op ≡ 10))
 unfolding checks
 eleven e c h =
     let fails = answer-cause e c 11 (omega arith) h .fails in
-    let f = neither (not (writes 2 c)) (eqb (e .steering .waiting .cycles) 0) fails in
-    let w = both (isOp 2 c) (eqb (c .a) 2) (not-false (writes 2 c) (f .0)) in
+    let f = neither (not (adjusts c)) (eqb (e .steering .waiting .cycles) 0) fails in
     let some = eqb-false (e .steering .waiting .cycles) 0 (f .1) in
-    (eqb-true (c .op) 2 (w .0), eqb-true (c .a) 2 (w .1), omega arith)
+    (omega arith, adjusts-as c (not-false (adjusts c) (f .0)))
 
 pub taken-eleven : (e : Engine) (c : Command) → c .op ≡ 2 → c .a ≡ 2 → 0 < e .steering .waiting .cycles
     → ((m : ℕ) → 4 ≤ m → m < 11 → passes e c m ≡ true)

@@ -5,12 +5,7 @@ use Rattle.ops.proofs.write_adjustment.Tie as tie
 
 returns : tie.Need-returns
 returns c =
-    simp (
-      c .with-steering .ensures,
-      c .before .adjust .ensures,
-      c .before .before .count-in .ensures,
-      c .before .before .before .amount-in .ensures,
-    )
+    simp (c .with-steering .ensures, c .before .adjust .ensures, c .before .before .adjustment-in .ensures)
 
 pub write-adjustment-spec : {M : Type 1} → statement M
-write-adjustment-spec = tie.close (tie.spec (search needs) (search needs) (search needs) (search needs) returns)
+write-adjustment-spec = tie.close (tie.spec (search needs) (search needs) (search needs) returns)

@@ -1,20 +1,12 @@
 -- Every part of the record is the formula's: the exact time, cut at the second shown, gains what the cycles bring.
-use Prim.Native.Nat.{ℕ, _+_, _*_}
-use mathlib.Core.Path.{_≡_}
 use native.Mathlib.Omega.{arith}
 use borrow.Author.Needs.{needs}
-use Rattle.model.specs.declared.Clock.{Clock}
-use Rattle.model.specs.Clock.{exact}
 use Rattle.model.specs.Elapse.{elapsed}
 use Rattle.model.proofs.Laws.Ranges.{valid-parts, clock-in}
 use Rattle.interrupts.specs.Position.{latchOne}
-use Rattle.elapse.specs.Reach.{second, inSecond}
-use Rattle.elapse.proofs.Numbers.{amount-low}
+use Rattle.elapse.proofs.Numbers.{amount-low, from-second}
 use Rattle.run.proofs.pass.Statement.{statement}
 use Rattle.run.proofs.pass.Tie as tie
-
-from-second : (k : Clock) (x : ℕ) → k .seconds * second + (inSecond k + x) ≡ exact k + x
-from-second k x = omega arith
 
 steer-by-requires : tie.Need-steer-by-requires
 steer-by-requires c κs = valid-parts _ (c .before .before .pre .0 .on) .steering

@@ -1,0 +1,2 @@
+-- What a preview asks.
+pub mod Previews
