@@ -11,7 +11,7 @@ use Rattle.model.specs.declared.Outcome.{Outcome}
 use Rattle.model.specs.Words.{noWords}
 use Rattle.model.specs.Outcome.{refused}
 use Rattle.model.specs.Checks.{answerOf, readsFifo}
-use Rattle.model.proofs.Laws.Tests.{both}
+use Rattle.model.proofs.Laws.Testing.{both}
 use Rattle.change.specs.Changes.{changeTo, movesFifo, Gives}
 
 module _ (e : Engine) (c : Command) where
@@ -24,9 +24,9 @@ module _ (e : Engine) (c : Command) where
       → Gives e c o (changeTo n noWords e false)
   refused-gives n o some is = record { is = is; moving = sym (refusal-still some) }
 
-  pub order-still : eqb (c .op) 0 ≡ false → readsFifo c ≡ false → movesFifo e c ≡ false
+  pub others-still : eqb (c .op) 0 ≡ false → readsFifo c ≡ false → movesFifo e c ≡ false
   unfolding movesFifo
-  order-still o n = rw (o, n) (and-false (eqb (answerOf e c) 0))
+  others-still o n = rw (o, n) (and-false (eqb (answerOf e c) 0))
 
   module _ (moves : movesFifo e c ≡ true) where
     pub moves-passed : answerOf e c ≡ 0

@@ -8,37 +8,38 @@ use native.Mathlib.Omega.{arith}
 use lib.Dec.{ltb, leb, eqb}
 use borrow.Author.Tests.{lt-ltb, le-ltb, le-leb, lt-leb, eq-eqb, ne-eqb}
 use Rattle.model.specs.declared.Clock.{Clock}
+use Rattle.model.specs.Units.{nsPerSecond}
 use Rattle.model.specs.Clock.{shown, endOfTime, clockAt}
-use Rattle.model.specs.Bounds.{ClockIn}
+use Rattle.model.specs.Bounds.{ClockRange}
 use Rattle.tests.proofs.Places.{by-place, same-test}
 use Rattle.tests.proofs.Carry.{Carries, carries}
 
 -- d more in the fraction, and c seconds carried
-module _ (s n f d c : ℕ) (n-low : n < 1000000000) (f-low : f < 256) (full : c * 1000000000 ≤ n + (f + d) / 256)
-    (most : n + (f + d) / 256 < (c + 1) * 1000000000) where
-  fraction : (f + d) % 256 ≡ ((s * 1000000000 + n) * 256 + f + d) % 256
+module _ (s n f d c : ℕ) (n-low : n < nsPerSecond) (f-low : f < 256) (full : c * nsPerSecond ≤ n + (f + d) / 256)
+    (most : n + (f + d) / 256 < (c + 1) * nsPerSecond) where
+  fraction : (f + d) % 256 ≡ ((s * nsPerSecond + n) * 256 + f + d) % 256
   fraction = omega arith
 
-  nanoseconds : n + (f + d) / 256 - c * 1000000000 ≡ ((s * 1000000000 + n) * 256 + f + d) / 256 % 1000000000
+  nanoseconds : n + (f + d) / 256 - c * nsPerSecond ≡ ((s * nsPerSecond + n) * 256 + f + d) / 256 % nsPerSecond
   nanoseconds = omega arith
 
-  seconds : s + c ≡ ((s * 1000000000 + n) * 256 + f + d) / 256 / 1000000000
+  seconds : s + c ≡ ((s * nsPerSecond + n) * 256 + f + d) / 256 / nsPerSecond
   seconds = omega arith
 
 -- a clock that gains d, place by place
-module _ (k : Clock) (d c : ℕ) (i : ClockIn k) (low : d ≤ 65536)
-    (is : c ≡ cond (leb 1000000000 (k .nanoseconds + (k .fraction + d) / 256)) 1 0) where
+module _ (k : Clock) (d c : ℕ) (i : ClockRange k) (low : d ≤ 65536)
+    (is : c ≡ cond (leb nsPerSecond (k .nanoseconds + (k .fraction + d) / 256)) 1 0) where
   abbrev sum : ℕ
   sum = k .nanoseconds + (k .fraction + d) / 256
 
-  pub second-carries : Carries 1000000000 sum c
-  second-carries = let f = i .fraction in let n = i .nanoseconds in carries 1000000000 sum c is (omega arith)
+  pub second-carries : Carries nsPerSecond sum c
+  second-carries = let f = i .fraction in let n = i .nanoseconds in carries nsPerSecond sum c is (omega arith)
 
   pub carried : (r : ℕ)
       → _≡_ {A = Clock}
       (record {
         seconds = k .seconds + c;
-        nanoseconds = sum - c * 1000000000;
+        nanoseconds = sum - c * nsPerSecond;
         fraction = (k .fraction + d) % 256;
         remainder = r;
       })
@@ -55,7 +56,7 @@ module _ (k : Clock) (d c : ℕ) (i : ClockIn k) (low : d ≤ 65536)
       )
 
 -- a tick of d ends within the last second
-pub in-time : (k : Clock) (d : ℕ) → ClockIn k → d ≤ 65536
+pub in-time : (k : Clock) (d : ℕ) → ClockRange k → d ≤ 65536
     → (ltb (k .seconds) 281474976710655 || ltb (k .nanoseconds * 256 + k .fraction + d) 256000000000)
     ≡ ltb (shown k + d) endOfTime
 in-time k d i l = go (decLt (k .seconds) 281474976710655)
@@ -71,9 +72,9 @@ in-time k d i l = go (decLt (k .seconds) 281474976710655)
         (same-test m 256000000000 (shown k + d) endOfTime (λ x. omega arith) (λ x. omega arith))
 
 -- a start of whole nanoseconds against the time shown, its whole seconds carried
-module _ (k : Clock) (s n : ℕ) (i : ClockIn k) where
+module _ (k : Clock) (s n : ℕ) (i : ClockRange k) where
   start : ℕ
-  start = (s * 1000000000 + n) * 256
+  start = (s * nsPerSecond + n) * 256
 
   earlier : shown k ≤ start → leb (shown k) start ≡ true
   earlier = le-leb (shown k) start
@@ -81,28 +82,28 @@ module _ (k : Clock) (s n : ℕ) (i : ClockIn k) where
   later : start < shown k → leb (shown k) start ≡ false
   later = lt-leb (shown k) start
 
-  level : k .seconds ≡ s + n / 1000000000 → k .nanoseconds ≡ n % 1000000000 → Dec (k .fraction ≡ 0)
+  level : k .seconds ≡ s + n / nsPerSecond → k .nanoseconds ≡ n % nsPerSecond → Dec (k .fraction ≡ 0)
       → leb (shown k) start ≡ eqb (k .fraction) 0
   unfolding start
   level e d (yes z) = earlier (omega arith) ∙ sym (eq-eqb (k .fraction) 0 z)
   level e d (no z) = later (omega arith) ∙ sym (ne-eqb (k .fraction) 0 z)
 
-  pub past-at-once : k .seconds < s → leb (shown k) ((s * 1000000000 + n) * 256) ≡ true
+  pub past-at-once : k .seconds < s → leb (shown k) ((s * nsPerSecond + n) * 256) ≡ true
   unfolding start
   past-at-once h = earlier (omega arith)
 
   pub not-past :
-      (ltb (k .seconds) (s + n / 1000000000)
-      || (eqb (k .seconds) (s + n / 1000000000)
-      && (ltb (k .nanoseconds) (n % 1000000000)
-      || (eqb (k .nanoseconds) (n % 1000000000) && eqb (k .fraction) 0))))
-      ≡ leb (shown k) ((s * 1000000000 + n) * 256)
+      (ltb (k .seconds) (s + n / nsPerSecond)
+      || (eqb (k .seconds) (s + n / nsPerSecond)
+      && (ltb (k .nanoseconds) (n % nsPerSecond)
+      || (eqb (k .nanoseconds) (n % nsPerSecond) && eqb (k .fraction) 0))))
+      ≡ leb (shown k) ((s * nsPerSecond + n) * 256)
   unfolding start
   not-past =
-      by-place (k .seconds) (s + n / 1000000000) _ (leb (shown k) start)
+      by-place (k .seconds) (s + n / nsPerSecond) _ (leb (shown k) start)
       (λ h. earlier (omega arith))
       (λ h. later (omega arith))
-      (λ e. sym (by-place (k .nanoseconds) (n % 1000000000) (eqb (k .fraction) 0) (leb (shown k) start)
+      (λ e. sym (by-place (k .nanoseconds) (n % nsPerSecond) (eqb (k .fraction) 0) (leb (shown k) start)
       (λ h. earlier (omega arith))
       (λ h. later (omega arith))
       (λ d. level e d (ℕ-discrete (k .fraction) 0))))

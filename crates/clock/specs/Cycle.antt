@@ -4,12 +4,12 @@ use mathlib.Core.Path.{_≡_}
 use Rattle.model.specs.declared.Clock.{Clock}
 use Rattle.model.specs.declared.Steering.{Steering}
 use Rattle.model.specs.Clock.{cycleAmount, stepBy, steeringAfter, lastCycle}
-use Rattle.model.specs.Bounds.{ClockIn}
+use Rattle.model.specs.Bounds.{ClockRange}
 use Rattle.clock.specs.declared.Steered.{Steered}
 
 -- a clock in range, the amount of a cycle and the step that it makes
 pub record Cycle (k : Clock) (amount step : ℕ) : Type 0 where
-  pub clock : ClockIn k
+  pub clock : ClockRange k
   pub high : amount < 2 ^ 40
   pub is : step ≡ stepBy k amount
   pub low : step ≤ 65536

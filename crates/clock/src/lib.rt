@@ -8,7 +8,7 @@ ghost use lib.Dec.{leb, ltb};
 ghost use Rattle.model.specs.Clock.{shown, endOfTime, cycleAmount, stepBy, ticked, clockSet};
 ghost use Rattle.model.specs.Clock.{noAdjustment, adjustedBy, steeringAfter};
 ghost use Rattle.model.specs.Ranges.{steeringOk};
-ghost use Rattle.model.specs.Bounds.{ClockIn};
+ghost use Rattle.model.specs.Bounds.{ClockRange};
 ghost use Rattle.clock.specs.Cycle.{steeredOf, Cycle};
 use model::Adjustment;
 use model::Clock;
@@ -136,7 +136,7 @@ pub fn steer(s: Steering) -> Steered
 
 // A tick of this step ends within the last second: in an earlier second always, in the last one by what it shows.
 fn ends_in_time(k: Clock, step: u64) -> bool
-    requires { ⌜ (ClockIn k) × (step ≤ 65536) ⌝ }
+    requires { ⌜ (ClockRange k) × (step ≤ 65536) ⌝ }
     ensures { λ r. ⌜ r ≡ ltb (shown k + step) endOfTime ⌝ }
 {
     either(
@@ -147,7 +147,7 @@ fn ends_in_time(k: Clock, step: u64) -> bool
 
 // The next tick by this steering ends within the last second.
 pub fn has_time_left(k: Clock, s: Steering) -> bool
-    requires { ⌜ (ClockIn k) × (steeringOk s ≡ true) ⌝ }
+    requires { ⌜ (ClockRange k) × (steeringOk s ≡ true) ⌝ }
     ensures { λ r. ⌜ r ≡ ltb (shown k + stepBy k (cycleAmount s)) endOfTime ⌝ }
 {
     ends_in_time(k, step_by(k, cycle_amount(s)))
@@ -156,7 +156,7 @@ pub fn has_time_left(k: Clock, s: Steering) -> bool
 // A start is not before the time shown: seconds first, then nanoseconds, where the clock shows no fraction. Whole
 // seconds in the nanoseconds are carried, so that it is right for every two numbers.
 pub fn is_not_past(k: Clock, seconds: u64, nanoseconds: u64) -> bool
-    requires { ⌜ ClockIn k ⌝ }
+    requires { ⌜ ClockRange k ⌝ }
     ensures { λ r. ⌜ r ≡ leb (shown k) ((seconds * 1000000000 + nanoseconds) * 256) ⌝ }
 {
     if k.seconds < seconds {

@@ -11,8 +11,8 @@ use Rattle.model.specs.declared.Steering.{Steering}
 use Rattle.model.specs.declared.Generator.{Generator}
 use Rattle.model.specs.Clock.{shown}
 use Rattle.model.specs.Generator.{isRunning}
-use Rattle.model.specs.Bounds.{RunningIn}
-use Rattle.model.proofs.Laws.Ranges.{running-in}
+use Rattle.model.specs.Bounds.{RunningRange}
+use Rattle.model.proofs.Laws.InRange.{running-in}
 use Rattle.elapse.specs.Reach.{second, inSecond, cyclesTo, edgeTime, edgeNeed, edgeTick, ticksInTime}
 use Rattle.elapse.specs.Asked.{Near, Reaching}
 use Rattle.elapse.proofs.Edges.{edge-later}
@@ -31,7 +31,7 @@ module _ (g : Generator) (k : Clock) (here : ℕ) (s : Steering) (amount : ℕ) 
     runs : isRunning g ≡ true
     runs = ap not (ne-eqb (g .left) 0 some)
 
-    running : RunningIn g (shown k)
+    running : RunningRange g (shown k)
     running = running-in g (shown k) (w .generator) runs
 
     pub far-none : k .seconds + 1 < g .pending .seconds → edgeTick g k s amount ≡ 0

@@ -16,12 +16,12 @@ use Rattle.model.specs.Clock.{shown, exact, endOfTime}
 use Rattle.model.specs.Generator.{isRunning, isBefore, pendingTotal}
 use Rattle.model.specs.Elapse.{amountOf}
 use Rattle.model.specs.Ranges.{generatorOk}
-use Rattle.model.specs.Bounds.{ClockIn, RunningIn}
-use Rattle.model.proofs.Laws.Tests.{leb-same}
-use Rattle.model.proofs.Laws.Ranges.{Valid, clock-in, running-in}
-use Rattle.model.proofs.Laws.Elapse.{shownAfter, isDueBy}
+use Rattle.model.specs.Bounds.{ClockRange, RunningRange}
+use Rattle.model.proofs.Laws.Testing.{leb-same}
+use Rattle.model.proofs.Laws.InRange.{Valid, clock-in, running-in}
+use Rattle.model.proofs.Laws.Elapsed.{shownAfter, isDueBy}
 use Rattle.elapse.specs.Reach.{second, inSecond, cyclesTo, edgeTime, edgeNeed, edgeTick, ticksInTime}
-use Rattle.elapse.proofs.Reach.{reaches, cycles-some}
+use Rattle.elapse.proofs.Reached.{reaches, cycles-some}
 
 -- a later time t of 1/256 ns is shown after k cycles exactly when they have brought what is missing until then
 pub shown-when : (e : Engine) → Valid e → (t k : ℕ) → shown (e .clock) < t
@@ -46,7 +46,7 @@ unfolding isBefore edgeTime
 before-time g t pos = ltb-mul (pendingTotal g * 256) t (g .denominator) pos
 
 -- a running generator of a valid record has its edge above the time shown
-pub edge-later : (g : Generator) (now : ℕ) → RunningIn g now → now < edgeTime g
+pub edge-later : (g : Generator) (now : ℕ) → RunningRange g now → now < edgeTime g
 unfolding edgeTime
 edge-later g now h =
     let pos : 0 < g .denominator = omega (arith, h .remainder) in
@@ -118,7 +118,7 @@ module _ (e : Engine) (v : Valid e) (g : Generator) (ok : generatorOk g (shown (
 
 -- the end of time, of n ticks that bring less than a second
 module _ (e : Engine) (v : Valid e) (n : ℕ) (short : amountOf (e .steering) n < 2 ^ 60) where
-  c : ClockIn (e .clock)
+  c : ClockRange (e .clock)
   c = clock-in (e .clock) (v .clock)
 
   abbrev pub left : ℕ

@@ -11,14 +11,15 @@ use Rattle.model.specs.declared.Clock.{Clock}
 use Rattle.model.specs.declared.Adjustment.{Adjustment}
 use Rattle.model.specs.declared.Steering.{Steering}
 use Rattle.model.specs.declared.Generator.{Generator}
+use Rattle.model.specs.Units.{nsPerSecond}
 use Rattle.model.specs.Clock.{shown, exact, clockAtExact}
 use Rattle.model.specs.Generator.{pendingTotal}
 use Rattle.model.specs.Elapse.{amountOf}
 use Rattle.model.specs.Ranges.{adjustmentOk, steeringOk}
-use Rattle.model.specs.Bounds.{RunningIn}
-use Rattle.model.proofs.Laws.Ranges.{SteeringIn, steering-in, adjustment-in, no-adjustment-in}
+use Rattle.model.specs.Bounds.{RunningRange}
+use Rattle.model.proofs.Laws.InRange.{SteeringRange, steering-in, adjustment-in, no-adjustment-in}
 use Rattle.elapse.specs.Reach.{second, inSecond, cyclesOf, phaseTo, edgeTime, edgeNeed}
-use Rattle.elapse.proofs.Reach.{some-amount}
+use Rattle.elapse.proofs.Reached.{some-amount}
 use Rattle.elapse.proofs.Edges.{edge-later}
 
 -- the exact time, cut at the second shown
@@ -129,7 +130,7 @@ PickedFor s rest =
     (cond waits (s .waiting .amount) (s .period))
 
 module _ (s : Steering) (h : steeringOk s ≡ true) (rest : ℕ) (some : 0 < rest) (low : rest < 2 ^ 64) where
-  v : SteeringIn s
+  v : SteeringRange s
   v = steering-in s h
 
   pub picked : PickedFor s rest
@@ -180,16 +181,16 @@ clock-parts s y c low high =
     λ i. record { seconds = seconds i; nanoseconds = nanoseconds i; fraction = fraction i; remainder = remainder i }
 
 -- the first time shown above the pending instant, by its parts
-module _ (g : Generator) (k : Clock) (h : RunningIn g (shown k)) where
+module _ (g : Generator) (k : Clock) (h : RunningRange g (shown k)) where
   some-parts : 0 < g .denominator
   some-parts = omega (arith, h .remainder)
 
   edge-parts : edgeTime g
-      ≡ (g .pending .seconds * 1000000000 + g .pending .nanoseconds) * 256
+      ≡ (g .pending .seconds * nsPerSecond + g .pending .nanoseconds) * 256
       + g .pending .remainder * 256 / g .denominator + 1
   unfolding edgeTime
   edge-parts =
-      let s = g .pending .seconds * 1000000000 + g .pending .nanoseconds in
+      let s = g .pending .seconds * nsPerSecond + g .pending .nanoseconds in
       let d = g .denominator in
       let e : pendingTotal g * 256 ≡ s * 256 * d + g .pending .remainder * 256 = omega arith in
       rw (e, mul-add-div-right some-parts)
@@ -197,9 +198,6 @@ module _ (g : Generator) (k : Clock) (h : RunningIn g (shown k)) where
   -- the remainder is less than a nanosecond
   pub part-low : g .pending .remainder * 256 / g .denominator < 256
   part-low = div-lt-iff-lt-mul some-parts .1 (omega (arith, h .remainder))
-
-  pub some-denominator : 0 < g .denominator
-  some-denominator = some-parts
 
   -- the instant is in the second shown or a later one
   pub ahead : k .seconds ≤ g .pending .seconds

@@ -6,12 +6,13 @@ use lib.Dec.{eqb, leb}
 use Rattle.model.specs.declared.Clock.{Clock}
 use Rattle.model.specs.declared.Steering.{Steering}
 use Rattle.model.specs.declared.Generator.{Generator}
+use Rattle.model.specs.Units.{nsPerSecond}
 use Rattle.model.specs.Clock.{exact}
 use Rattle.model.specs.Generator.{isRunning, pendingTotal}
 
 -- a second, and what of the exact time lies in the second shown
 abbrev pub second : ℕ
-second = 1000000000 * 2 ^ 32
+second = nsPerSecond * 2 ^ 32
 
 abbrev pub inSecond : Clock → ℕ
 inSecond k = k .nanoseconds * 2 ^ 32 + k .fraction * 2 ^ 24 + k .remainder

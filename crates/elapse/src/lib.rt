@@ -8,7 +8,7 @@ ghost use Prim.Native.Nat.{_+_, _*_, _-_, _/_, _<_, _≤_, _^_};
 ghost use lib.Dec.{ltb};
 ghost use Rattle.model.specs.Clock.{endOfTime, clockAtExact};
 ghost use Rattle.model.specs.Ranges.{steeringOk};
-ghost use Rattle.model.specs.Bounds.{ClockIn};
+ghost use Rattle.model.specs.Bounds.{ClockRange};
 ghost use Rattle.model.specs.Elapse.{amountOf, spentBy, steeringBy, endsWithin};
 ghost use Rattle.elapse.specs.Reach.{second, inSecond, cyclesTo, edgeTime, edgeTick, ticksInTime};
 ghost use Rattle.elapse.specs.Asked.{Near, Reaching, InTime};
@@ -67,7 +67,7 @@ fn cycles_to(s: Steering, need: u64) -> u64
 
 // What of the exact time lies in the second shown.
 pub fn in_second(k: Clock) -> u64
-    requires { ⌜ ClockIn k ⌝ }
+    requires { ⌜ ClockRange k ⌝ }
     ensures { λ r. ⌜ r ≡ inSecond k ⌝ }
 {
     k.nanoseconds * NANOSECOND + k.fraction * STEP_UNIT + k.remainder

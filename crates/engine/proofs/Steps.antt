@@ -16,22 +16,22 @@ use Rattle.model.specs.Ops.{ops, unknown, performed}
 use Rattle.model.specs.Ranges.{valid}
 use Rattle.model.specs.Checks.{checks, answerOf, readsFifo}
 use Rattle.model.specs.Execute.{execute}
-use Rattle.model.proofs.Laws.Ranges.{valid-parts}
+use Rattle.model.proofs.Laws.InRange.{valid-parts}
 use Rattle.model.proofs.Laws.Parts.{interrupts-in}
 use Rattle.model.proofs.Laws.Bits.{only-bits-lt}
 use Rattle.model.proofs.Laws.Tables.{NoneOf, past-arms}
-use Rattle.model.proofs.Laws.Checks.{accepted-facts, performed-row}
+use Rattle.model.proofs.Laws.Accepting.{accepted-facts, performed-row}
 use Rattle.model.proofs.Laws.Valid.{execute-valid}
 use Rattle.change.specs.declared.Change.{Change}
 use Rattle.change.specs.Changes.{changeTo, outcomeOf, Gives}
-use Rattle.change.proofs.Given.{refused-gives, order-still}
-use Rattle.engine.specs.Stepped.{Ordered, Stepped}
+use Rattle.change.proofs.Given.{refused-gives, others-still}
+use Rattle.engine.specs.Stepped.{Performing, Stepped}
 
 module _ (e : Engine) (c : Command) where
   -- an accepted op that is none of 0 to 7, 9 and 10 is the last arm's
-  pub last-op : Ordered e c → NoneOf 1 7 (c .op) → c .op ≡ 8
+  pub last-op : Performing e c → NoneOf 1 7 (c .op) → c .op ≡ 8
   last-op start none =
-      let some = eqb-false (c .op) 0 (start .order) in
+      let some = eqb-false (c .op) 0 (start .noTick) in
       let other = eqb-false (c .op) 9 (start .noRun) in
       let another = eqb-false (c .op) 10 (start .noPreview) in
       let known = accepted-facts e c (start .passed) .op in
@@ -49,15 +49,15 @@ module _ (e : Engine) (c : Command) where
       let two : eqb (c .op) 2 ≡ false = ap (λ x. eqb x 2) o ∙ no-command in
       let none : readsFifo c ≡ false = rw two refl in
       row-gives n o
-      (record { is = is; moving = still ∙ sym (order-still e c (ap (λ x. eqb x 0) o ∙ no-tick) none) })
+      (record { is = is; moving = still ∙ sym (others-still e c (ap (λ x. eqb x 0) o ∙ no-tick) none) })
 
   pub accepted-gives : {m : Change} → answerOf e c ≡ 0 → Gives e c (performed e c) m → Gives e c (execute e c) m
   unfolding execute
   accepted-gives a g = rw (eq-eqb _ _ a) g
 
-  pub order-refused : (n : ℕ) → n ≡ answerOf e c → (n ≡ 0 → ⊥) → Gives e c (execute e c) (changeTo n noWords e false)
+  pub other-refused : (n : ℕ) → n ≡ answerOf e c → (n ≡ 0 → ⊥) → Gives e c (execute e c) (changeTo n noWords e false)
   unfolding execute
-  order-refused n is some =
+  other-refused n is some =
       let refused = ne-eqb _ _ (λ z. some (is ∙ z)) in
       rw is (refused-gives e c _ _ refused (rw refused refl))
 

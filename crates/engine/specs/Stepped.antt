@@ -10,9 +10,9 @@ use Rattle.model.specs.Ranges.{valid}
 use Rattle.model.specs.Checks.{answerOf}
 use Rattle.model.specs.Execute.{execute}
 
-pub record Ordered (e : Engine) (c : Command) : Type 0 where
+pub record Performing (e : Engine) (c : Command) : Type 0 where
   pub passed : answerOf e c ≡ 0
-  pub order : eqb (c .op) 0 ≡ false
+  pub noTick : eqb (c .op) 0 ≡ false
   pub noRun : eqb (c .op) 9 ≡ false
   pub noPreview : eqb (c .op) 10 ≡ false
 

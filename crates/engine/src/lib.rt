@@ -10,7 +10,7 @@ ghost use Rattle.model.specs.Ops.{performed};
 ghost use Rattle.model.specs.Ranges.{valid};
 ghost use Rattle.model.specs.Execute.{execute as executeSpec};
 ghost use Rattle.change.specs.Changes.{fifosMoved, movesFifo, Gives};
-ghost use Rattle.engine.specs.Stepped.{Ordered, Stepped};
+ghost use Rattle.engine.specs.Stepped.{Performing, Stepped};
 use change::Change;
 use change::apply;
 use change::change_to;
@@ -49,7 +49,7 @@ pub fn power_on() -> Engine
 
 // An accepted command that is no tick, run or preview, by its op.
 fn perform(e: Engine, c: Command) -> Change
-    requires { ⌜ Ordered e c ⌝ }
+    requires { ⌜ Performing e c ⌝ }
     ensures { λ r. ⌜ Gives e c (performed e c) r ⌝ }
 {
     let op = c.op;
@@ -67,7 +67,7 @@ fn perform(e: Engine, c: Command) -> Change
 
 // A command that is no tick, on a valid record: a refusal changes nothing. A run and a preview make their own checks,
 // as a tick does.
-pub fn order(e: Engine, c: Command) -> Change
+pub fn other(e: Engine, c: Command) -> Change
     requires { ⌜ valid e ≡ true ⌝ }
     requires { ⌜ eqb (c .op) 0 ≡ false ⌝ }
     ensures { λ r. ⌜ Gives e c (executeSpec e c) r ⌝ }
@@ -93,7 +93,7 @@ pub fn change_by(e: Engine, c: Command) -> Change
     if c.op == 0 {
         tick::tick(e, c)
     } else {
-        order(e, c)
+        other(e, c)
     }
 }
 
@@ -110,15 +110,14 @@ pub fn move_fifos(e: Engine, c: Command) -> Engine
 }
 
 // The record with a command's change made: its FIFOs moved where one moves, then the parts of the change.
-pub fn settle(e: Engine, c: Command, m: Change) -> Engine
+pub fn settle(mut e: Engine, c: Command, m: Change) -> Engine
     requires { ⌜ Gives e c (executeSpec e c) m ⌝ }
     ensures { λ r. ⌜ r ≡ executeSpec e c .engine ⌝ }
 {
-    let mut moved = e;
     if m.moves {
-        moved = move_fifos(e, c);
+        e = move_fifos(e, c);
     }
-    apply(moved, m)
+    apply(e, m)
 }
 
 // One command on a valid record, which stays valid: for callers that run many, and check the record once.

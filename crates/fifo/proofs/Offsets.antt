@@ -8,6 +8,7 @@ use lib.Dec.{leb}
 use native.Mathlib.Omega.{arith}
 use borrow.Author.Tests.{leb-true, leb-false}
 use Rattle.model.specs.declared.Clock.{Clock}
+use Rattle.model.specs.Units.{nsPerSecond}
 use Rattle.model.specs.Clock.{shown, endOfTime}
 use Rattle.model.specs.Fifo.{lastNanosecond}
 
@@ -17,10 +18,10 @@ module _ (k : Clock) (offset : ℕ) where
   abbrev below : ℕ
   below = k .nanoseconds + (8 * k .fraction + offset + 1024) / 2048
 
-  pub rounded : k .seconds * 1000000000 + below ≡ (8 * shown k + offset + 8 * 128) / (8 * 256)
+  pub rounded : k .seconds * nsPerSecond + below ≡ (8 * shown k + offset + 8 * 128) / (8 * 256)
   rounded = omega arith
 
-  pub not-past : 8 * shown k + offset < 8 * endOfTime → k .seconds * 1000000000 + below ≤ 2 ^ 48 * 1000000000
+  pub not-past : 8 * shown k + offset < 8 * endOfTime → k .seconds * nsPerSecond + below ≤ 2 ^ 48 * nsPerSecond
   not-past near = rw rounded (omega (arith, near))
 
 -- ---- a carry that is kept, or else past the last second
@@ -29,31 +30,32 @@ pub no-more : (test : Bool) (carry past : ℕ) → past ≡ cond test carry 0 �
 no-more true carry past e = omega arith
 no-more false carry past e = omega arith
 
-pub left-below : (test : Bool) (ns carry past : ℕ) → past ≡ cond test carry 0 → carry * 1000000000 ≤ ns
-    → (carry - past) * 1000000000 ≤ ns - past
+pub left-below : (test : Bool) (ns carry past : ℕ) → past ≡ cond test carry 0 → carry * nsPerSecond ≤ ns
+    → (carry - past) * nsPerSecond ≤ ns - past
 left-below true ns carry past e h = omega arith
 left-below false ns carry past e h = omega arith
 
 -- ---- seconds and nanoseconds of a total
 
 abbrev InSecond : ℕ → ℕ → ℕ → Type 0
-InSecond s m t = (s ≡ t / 1000000000) × (m ≡ t % 1000000000)
+InSecond s m t = (s ≡ t / nsPerSecond) × (m ≡ t % nsPerSecond)
 
-in-second : (s m t : ℕ) → m < 1000000000 → t ≡ s * 1000000000 + m → InSecond s m t
+in-second : (s m t : ℕ) → m < nsPerSecond → t ≡ s * nsPerSecond + m → InSecond s m t
 in-second s m t h e = (rw e (omega arith), rw e (omega arith))
 
-module _ (s ns : ℕ) (low : ns < 2000000000) (reach : s * 1000000000 + ns ≤ 2 ^ 48 * 1000000000) where
+module _ (s ns : ℕ) (low : ns < 2000000000) (reach : s * nsPerSecond + ns ≤ 2 ^ 48 * nsPerSecond) where
   abbrev carry : ℕ
-  carry = ns / 1000000000
+  carry = ns / nsPerSecond
 
   -- the timestamp, as far as the carry that is not kept
   abbrev Split : ℕ → Type 0
   Split past =
-      InSecond (s + (carry - past)) (ns - past - (carry - past) * 1000000000) (min lastNanosecond (s * 1000000000 + ns))
+      InSecond (s + (carry - past)) (ns - past - (carry - past) * nsPerSecond)
+      (min lastNanosecond (s * nsPerSecond + ns))
 
   at-last : s ≡ 281474976710655 → Split carry
   at-last e =
-      let few : ns ≤ 1000000000 = omega (arith, e) in
+      let few : ns ≤ nsPerSecond = omega (arith, e) in
       in-second _ _ _ (omega (arith, few)) (rw e (omega (arith, few)))
 
   before-last : s < 281474976710655 → Split 0

@@ -8,10 +8,11 @@ use lib.ListN.{set}
 use Rattle.model.specs.declared.Clock.{Clock}
 use Rattle.model.specs.declared.Fifo.{Fifo}
 use Rattle.model.specs.declared.Timestamp.{Timestamp}
+use Rattle.model.specs.Units.{nsPerSecond}
 use Rattle.model.specs.Clock.{shown, endOfTime}
 use Rattle.model.specs.Edges.{codeEighth}
 use Rattle.model.specs.Fifo.{nearestNs, isFull, capturesFirst, overflows}
-use Rattle.model.specs.Bounds.{ClockIn}
+use Rattle.model.specs.Bounds.{ClockRange}
 use Rattle.fifo.specs.declared.Arrival.{Arrival}
 
 -- the eighth of a code, one of eight
@@ -27,7 +28,7 @@ pub record OffsetOf (step code r : ℕ) : Type 0 where
 
 -- an edge's code, in a tick of a step from the clock k
 pub record Stamping (k : Clock) (step code : ℕ) : Type 0 where
-  pub clock : ClockIn k
+  pub clock : ClockRange k
   pub low : step ≤ 65536
   pub near : shown k + step < endOfTime
   pub some : 0 < code
@@ -37,16 +38,16 @@ pub record Stamping (k : Clock) (step code : ℕ) : Type 0 where
 pub record Carrying (seconds ns : ℕ) : Type 0 where
   pub second : seconds < 2 ^ 48
   pub low : ns < 2000000000
-  pub reach : seconds * 1000000000 + ns ≤ 2 ^ 48 * 1000000000
+  pub reach : seconds * nsPerSecond + ns ≤ 2 ^ 48 * nsPerSecond
 
 -- an edge's instant to the nearest nanosecond, from the start of the clock's second on
 pub record NearestOf (k : Clock) (step code r : ℕ) : Type 0 where
-  pub is : k .seconds * 1000000000 + r ≡ nearestNs (shown k) step (codeEighth code)
+  pub is : k .seconds * nsPerSecond + r ≡ nearestNs (shown k) step (codeEighth code)
   pub carrying : Carrying (k .seconds) r
 
 -- an input's code, in a tick of a step from the clock k
 pub record Capturing (k : Clock) (step code : ℕ) : Type 0 where
-  pub clock : ClockIn k
+  pub clock : ClockRange k
   pub low : step ≤ 65536
   pub near : shown k + step < endOfTime
   pub few : code ≤ 16

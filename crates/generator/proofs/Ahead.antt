@@ -11,9 +11,10 @@ use lib.Dec.{eqb}
 use borrow.Author.Tests.{ltb-true, eq-eqb, ne-eqb}
 use Rattle.model.specs.declared.Clock.{Clock}
 use Rattle.model.specs.declared.Generator.{Generator}
+use Rattle.model.specs.Units.{nsPerSecond}
 use Rattle.model.specs.Clock.{shown}
 use Rattle.model.specs.Generator.{isBefore, pendingTotal, startsBy, fromTheTop, eighthOf}
-use Rattle.model.proofs.Laws.Ranges.{clock-in, running-in}
+use Rattle.model.proofs.Laws.InRange.{clock-in, running-in}
 use Rattle.model.proofs.Laws.Eighths.{first-same, starts-ahead}
 use Rattle.generator.specs.Advance.{Due, topmost}
 
@@ -39,7 +40,7 @@ pub record Ahead (g : Generator) (k : Clock) (step later : ℕ) : Type 0 where
   pub within : sinceShown g k later < step * g .denominator
 
 -- second a is second b or the next: as many nanoseconds later as the code picks
-picked : (a b later : ℕ) → later ≡ cond (eqb a b) 0 1000000000 → b ≤ a → a ≤ b + 1 → later ≡ (a - b) * 1000000000
+picked : (a b later : ℕ) → later ≡ cond (eqb a b) 0 nsPerSecond → b ≤ a → a ≤ b + 1 → later ≡ (a - b) * nsPerSecond
 picked a b later is low high =
     elim (ℕ-discrete a b) [
       | yes e ↦ is ∙ rw (eq-eqb a b e) (omega arith)
@@ -53,14 +54,14 @@ length-low {g} {k} {step} h =
     omega arith
 
 pub ahead : {g : Generator} {k : Clock} {step later : ℕ} → Due g k step
-    → later ≡ cond (eqb (g .pending .seconds) (k .seconds)) 0 1000000000 → Ahead g k step later
+    → later ≡ cond (eqb (g .pending .seconds) (k .seconds)) 0 nsPerSecond → Ahead g k step later
 unfolding isBefore
 ahead {g} {k} {step} {later} h is =
     let i = clock-in k (h .clock) in
     let r = running-in g (shown k) (h .generator) (h .running) in
     let d = g .denominator in
-    let e = g .pending .seconds * 1000000000 + g .pending .nanoseconds in
-    let a = k .seconds * 1000000000 + k .nanoseconds in
+    let e = g .pending .seconds * nsPerSecond + g .pending .nanoseconds in
+    let a = k .seconds * nsPerSecond + k .nanoseconds in
     let before = ltb-true (pendingTotal g * 256) ((shown k + step) * d) (h .before) in
     let part : (k .fraction + 1) * d ≤ 256 * d = mul-le-mul-right d (omega arith) in
     let short : step * d ≤ 65536 * d = mul-le-mul-right d (h .low) in

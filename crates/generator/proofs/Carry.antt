@@ -6,6 +6,7 @@ use native.Mathlib.Omega.{arith}
 use native.Mathlib.Nat.{mul-add-div-right, mul-add-mod-self-right, div-lt-iff-lt-mul}
 use Rattle.model.specs.declared.Generator.{Generator}
 use Rattle.model.specs.declared.Instant.{Instant}
+use Rattle.model.specs.Units.{nsPerSecond}
 use Rattle.model.specs.Generator.{pendingTotal, intervalTotal, nextInstant}
 use Rattle.generator.specs.Advance.{Running}
 
@@ -19,8 +20,8 @@ carried g =
     let part = g .pending .remainder + g .numerator in
     let nanoseconds = g .pending .nanoseconds + g .whole + part / g .denominator in
     record {
-      seconds = g .pending .seconds + nanoseconds / 1000000000;
-      nanoseconds = nanoseconds % 1000000000;
+      seconds = g .pending .seconds + nanoseconds / nsPerSecond;
+      nanoseconds = nanoseconds % nsPerSecond;
       remainder = part % g .denominator;
     }
 
@@ -30,11 +31,11 @@ carried-next {g} h =
     let d = g .denominator in
     let part = g .pending .remainder + g .numerator in
     let n = g .pending .nanoseconds + g .whole in
-    let x = g .pending .seconds * 1000000000 + n in
+    let x = g .pending .seconds * nsPerSecond + n in
     let carry = part / d in
     let total : pendingTotal g + intervalTotal g ≡ x * d + part = omega arith in
     let whole = mul-add-div-right {m = d} (omega arith) x part in
     let rest = mul-add-mod-self-right x d part in
-    let s : g .pending .seconds + (n + carry) / 1000000000 ≡ (x + carry) / 1000000000 = omega arith in
-    let r : (n + carry) % 1000000000 ≡ (x + carry) % 1000000000 = omega arith in
+    let s : g .pending .seconds + (n + carry) / nsPerSecond ≡ (x + carry) / nsPerSecond = omega arith in
+    let r : (n + carry) % nsPerSecond ≡ (x + carry) % nsPerSecond = omega arith in
     simp (total, whole, rest, s, r)

@@ -10,6 +10,7 @@ use lib.Dec.{ltb, eqb}
 use borrow.Author.Tests.{eq-eqb, ne-eqb}
 use Rattle.model.specs.declared.Clock.{Clock}
 use Rattle.model.specs.declared.Generator.{Generator}
+use Rattle.model.specs.Units.{nsPerSecond}
 use Rattle.model.specs.Clock.{shown}
 use Rattle.model.specs.Generator.{isBefore, pendingTotal}
 use Rattle.tests.proofs.Places.{same-test}
@@ -48,15 +49,15 @@ placewise {g} {k} h =
     let e = g .pending in
     let m = 256 * g .denominator in
     let fraction : (k .fraction + 1) * d ≤ 256 * d = mul-le-mul-right d (omega arith) in
-    let pending : (e .nanoseconds + 1) * d ≤ 1000000000 * d = mul-le-mul-right d (omega arith) in
-    let time : (k .nanoseconds + 1) * d ≤ 1000000000 * d = mul-le-mul-right d (omega arith) in
+    let pending : (e .nanoseconds + 1) * d ≤ nsPerSecond * d = mul-le-mul-right d (omega arith) in
+    let time : (k .nanoseconds + 1) * d ≤ nsPerSecond * d = mul-le-mul-right d (omega arith) in
     let u = e .remainder * 256 in
     let v = k .fraction * g .denominator in
     let below = e .nanoseconds * m + u in
     let above = k .nanoseconds * m + v in
-    let pending-places : pendingTotal g * 256 ≡ e .seconds * (1000000000 * m) + below = omega arith in
-    let time-places : shown k * d ≡ k .seconds * (1000000000 * m) + above = omega arith in
-    let first = first-decides (1000000000 * m) (e .seconds) (k .seconds) below above (omega arith) (omega arith) in
+    let pending-places : pendingTotal g * 256 ≡ e .seconds * (nsPerSecond * m) + below = omega arith in
+    let time-places : shown k * d ≡ k .seconds * (nsPerSecond * m) + above = omega arith in
+    let first = first-decides (nsPerSecond * m) (e .seconds) (k .seconds) below above (omega arith) (omega arith) in
     let second = first-decides m (e .nanoseconds) (k .nanoseconds) u v (omega arith) (omega arith) in
     rw (second, first, pending-places, time-places)
 

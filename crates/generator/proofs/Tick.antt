@@ -9,15 +9,15 @@ use Rattle.model.specs.declared.Clock.{Clock}
 use Rattle.model.specs.declared.Generator.{Generator}
 use Rattle.model.specs.Clock.{shown}
 use Rattle.model.specs.Generator.{isRunning, isBefore, isDue}
-use Rattle.model.specs.Bounds.{RunningIn}
-use Rattle.model.proofs.Laws.Ranges.{clock-in, running-in}
+use Rattle.model.specs.Bounds.{RunningRange}
+use Rattle.model.proofs.Laws.InRange.{clock-in, running-in}
 use Rattle.generator.specs.Advance.{Comparable, Running, Due, Ticking}
 
 module _ {g : Generator} {k next : Clock} {step : ℕ} (t : Ticking g k next step) (some : g .left ≡ 0 → ⊥) where
   runs : isRunning g ≡ true
   runs = ap not (ne-eqb (g .left) 0 some)
 
-  in-range : RunningIn g (shown k)
+  in-range : RunningRange g (shown k)
   in-range = running-in g (shown k) (t .generator) runs
 
   pub comparable : Comparable g next

@@ -6,6 +6,7 @@ use Prim.Native.Nat.{ℕ, _+_, _*_, _<_, _≤_, _^_}
 use lib.Dec.{leb}
 use Rattle.model.specs.declared.Clock.{Clock}
 use Rattle.model.specs.declared.Generator.{Generator}
+use Rattle.model.specs.Units.{nsPerSecond}
 use Rattle.model.specs.Clock.{shown}
 use Rattle.model.specs.Generator
 use Rattle.model.specs.Ranges.{clockOk, generatorOk}
@@ -13,16 +14,16 @@ use Rattle.generator.specs.declared.Advanced.{Advanced}
 
 -- a pending instant and a time shown whose places can be compared one by one
 pub record Comparable (g : Generator) (k : Clock) : Type 0 where
-  pub pending : g .pending .nanoseconds < 1000000000
+  pub pending : g .pending .nanoseconds < nsPerSecond
   pub remainder : g .pending .remainder < g .denominator
   pub denominator : g .denominator < 2 ^ 32
-  pub nanoseconds : k .nanoseconds < 1000000000
+  pub nanoseconds : k .nanoseconds < nsPerSecond
   pub fraction : k .fraction < 256
 
 -- a running generator within its ranges, at some time shown
 pub record Running (g : Generator) : Type 0 where
   pub seconds : g .pending .seconds < 2 ^ 48
-  pub nanoseconds : g .pending .nanoseconds < 1000000000
+  pub nanoseconds : g .pending .nanoseconds < nsPerSecond
   pub remainder : g .pending .remainder < g .denominator
   pub whole : g .whole ≤ 999999999
   pub numerator : g .numerator < g .denominator

@@ -7,8 +7,8 @@ use Rattle.model.specs.declared.Command.{Command}
 use Rattle.model.specs.Clock.{noAdjustment}
 use Rattle.model.specs.Record.{powerOn}
 use Rattle.model.specs.Run.{engineAfter, history}
-use Rattle.model.specs.BeforeWaiting.{engineBefore, historyBefore, noneGot11}
-use Rattle.model.proofs.Laws.BeforeWaiting as Law
+use Rattle.model.specs.RuleBefore.{engineBefore, historyBefore, noneGot11}
+use Rattle.model.proofs.Laws.NeverWaited as Law
 
 -- by that rule the waiting place is never used, so that the record was the one without it
 pub never-waited : (cs : List Command) → engineBefore cs .steering .waiting ≡ noAdjustment

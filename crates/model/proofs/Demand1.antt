@@ -12,7 +12,7 @@ use Rattle.model.specs.declared.Outcome.{Outcome}
 use Rattle.model.specs.Checks.{lastNumber, passes, Cause}
 use Rattle.model.specs.Execute.{execute}
 use Rattle.model.specs.Run.{engineAfter}
-use Rattle.model.proofs.Laws.Checks.{execute-refused}
+use Rattle.model.proofs.Laws.Accepting.{execute-refused}
 use Rattle.model.proofs.Laws.Outcomes
 
 -- what comes out of a refused command, beside its number

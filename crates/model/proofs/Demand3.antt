@@ -1,6 +1,12 @@
 -- Demand 3, against the ledger of document 01: one statement over every list of commands from power-on. The record
 -- after the list is `engineAfter cs`; `ledgerAfter cs` is the ledger, with the returned edges under each order, kept
 -- from the commands, answers and values alone.
+--
+-- To read it beside document 01: specs/Fractions.antt (`over 1 256` is 1/256; fractions are compared and added by
+-- cross-multiplying), Ledger.antt (the account and its step), Bookings.antt (what a command tells it), Instants.antt
+-- (instants, the edges returned, the lag); then, for what the engine does, Clock.antt to Ops.antt, in the order of
+-- specs/Lib.antt. `cond b x y` is x where b holds, else y; `A × B` is both, `A ⊎ B` one of them; a record is all its
+-- lines. Why it holds is told by Follow.antt.
 use mathlib.Core.List.{List}
 use Rattle.model.specs.declared.Command.{Command}
 use Rattle.model.specs.Run.{engineAfter}

@@ -15,7 +15,7 @@ use Rattle.model.specs.Interrupts
 use Rattle.model.specs.Record
 use Rattle.model.specs.Tick
 use Rattle.model.specs.RunLine
-use Rattle.model.specs.Orders
+use Rattle.model.specs.OtherOps
 use Rattle.model.specs.Preview
 use Rattle.model.specs.Ops
 use Rattle.model.specs.Ranges
@@ -24,27 +24,32 @@ use Rattle.model.specs.Checks
 use Rattle.model.specs.Execute
 use Rattle.model.specs.Run.{engineBy, historyBy}
 use Rattle.model.specs.Text
+use Rattle.model.specs.Forms
 use Rattle.model.specs.Sheet
 use Rattle.model.specs.Results
-use Rattle.model.proofs.Laws.Tests.{both}
+use Rattle.model.proofs.Laws.Testing.{both}
 use Rattle.model.proofs.Examples.Runs.{Example, answers, lastValues, values}
 use Rattle.model.proofs.Examples.Starred.{shownAfter, edgeAt, edgesFrom, verdict, starred}
 use Rattle.model.proofs.Examples.Cells.{timeCell, amountCell, countCell, refusedCell, cells}
-use Rattle.model.proofs.Examples.RunLines.{runLines}
+use Rattle.model.proofs.Examples.RunsOfTicks.{runLines}
 use Rattle.model.proofs.Examples.Adjustments.{adjustments}
 use Rattle.model.proofs.Examples.Previews.{previews}
-use Rattle.model.proofs.Examples.Timestamps.{timestamps}
+use Rattle.model.proofs.Examples.Rounding.{timestamps}
+use Rattle.model.proofs.Examples.RecordLimits.{recordLimits, answersOn}
+use Rattle.model.proofs.Examples.FieldLimits.{fieldLimits, answersTo}
 -- commands, the six parts of the list
 pub mod Runs
 pub mod Starred
 pub mod Cells
-pub mod RunLines
+pub mod RunsOfTicks
 pub mod Adjustments
 pub mod Previews
-pub mod Timestamps
+pub mod Rounding
+pub mod RecordLimits
+pub mod FieldLimits
 
 pub examples : List Example
-examples = starred ++ cells ++ runLines ++ adjustments ++ previews ++ timestamps
+examples = starred ++ cells ++ runLines ++ adjustments ++ previews ++ timestamps ++ recordLimits ++ fieldLimits
 
 -- two lists of numbers are compared number by number, so that a list that is not as stated fails at once
 same : List ℕ → List ℕ → Bool
@@ -75,20 +80,21 @@ stated-equal (x ∷ xs) h =
     rw (same-equal (x .found) (x .stated) (t .0), stated-equal xs (t .1))
 
 examples-tested : asStated examples ≡ true
-unfolding examples starred cells runLines adjustments previews timestamps timeCell amountCell countCell refusedCell
-    asStated same answers lastValues values shownAfter edgeAt edgesFrom verdict engineBy historyBy Words.secondsIn
-    Words.nanosecondsIn Words.aboveNanoseconds Words.wholeIn Words.fracIn Words.amountIn Words.belowFrac Words.countIn
-    Words.timeWords Clock.cycleAmount Clock.stepBy Clock.remainderBy Clock.ticked Clock.lastCycle Clock.steeringAfter
-    Clock.adjustedBy Fifo.timestampNs Fifo.timestampOf Fifo.captured Fifo.capturesFirst Fifo.overflows Fifo.popped
-    Generator.nextInstant Generator.isBefore Generator.isDue Generator.startsBy Generator.firstOf Generator.eighthOf
-    Generator.placed Generator.following Generator.generated Generator.completesEvent Generator.completesSequence
-    Interrupts.withBit Interrupts.latch Interrupts.anyBoth Interrupts.interruptWord Interrupts.statusWord
-    Interrupts.onlyBits Record.powerOn Ranges.clockOk Ranges.adjustmentOk Ranges.steeringOk Ranges.timestampOk
-    Ranges.placeOk Ranges.fifoOk Ranges.generatorOk Ranges.interruptsOk Ranges.wordsOk Ranges.valid Fields.fieldTests
-    Fields.fieldsOk Checks.checks Checks.answerOf Tick.tickEvents Tick.tickEngine Tick.tickValues Tick.ticks
-    Tick.inTimeFor RunLine.hasEnded RunLine.oneMore RunLine.run RunLine.ran Orders.written Orders.readWords
-    Orders.readEngine Orders.commanded Orders.interruptsRead Orders.statusOf Preview.previewed Ops.performed
-    Execute.execute Text.isValue Sheet.isLine Sheet.sheetVerdict Sheet.commandsIn Text.decimal Results.results
+unfolding examples starred cells runLines adjustments previews timestamps recordLimits fieldLimits answersOn answersTo
+    timeCell amountCell countCell refusedCell asStated same answers lastValues values shownAfter edgeAt edgesFrom
+    verdict engineBy historyBy Words.secondsIn Words.nanosecondsIn Words.aboveNanoseconds Words.wholeIn Words.fracIn
+    Words.amountIn Words.belowFrac Words.countIn Words.timeWords Clock.cycleAmount Clock.stepBy Clock.remainderBy
+    Clock.ticked Clock.lastCycle Clock.steeringAfter Clock.adjustedBy Fifo.timestampNs Fifo.timestampOf Fifo.captured
+    Fifo.capturesFirst Fifo.overflows Fifo.popped Generator.nextInstant Generator.isBefore Generator.isDue
+    Generator.startsBy Generator.firstOf Generator.eighthOf Generator.placed Generator.following Generator.generated
+    Generator.completesEvent Generator.completesSequence Interrupts.withBit Interrupts.latch Interrupts.anyBoth
+    Interrupts.interruptWord Interrupts.statusWord Interrupts.onlyBits Record.powerOn Ranges.clockOk
+    Ranges.adjustmentOk Ranges.steeringOk Ranges.timestampOk Ranges.placeOk Ranges.fifoOk Ranges.generatorOk
+    Ranges.interruptsOk Ranges.wordsOk Ranges.valid Fields.fieldTests Fields.fieldsOk Checks.checks Checks.answerOf
+    Tick.tickEvents Tick.tickEngine Tick.tickValues Tick.ticks Tick.inTimeFor RunLine.hasEnded RunLine.oneMore
+    RunLine.run RunLine.ran OtherOps.written OtherOps.readWords OtherOps.readEngine OtherOps.commanded
+    OtherOps.interruptsRead OtherOps.statusOf Preview.previewed Ops.performed Execute.execute Text.isValue
+    Forms.readsLine Forms.rowIn Forms.headVerdict Forms.verdictOf Sheet.commandSheet Sheet.commandsIn Text.decimal Results.results
 examples-tested = refl
 
 -- every example is as stated

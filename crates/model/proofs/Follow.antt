@@ -4,7 +4,7 @@
 -- a code tells its edge; a generator against its order, at rest and in a tick
 pub mod Codes
 pub mod Train
-pub mod Tick
+pub mod LedgerTick
 -- the invariant, and each op; then every command, and every list
 pub mod Agrees
 pub mod OnTick

@@ -2,11 +2,12 @@
 pub mod Demand1
 pub mod Demand2
 pub mod Demand3
+pub mod EveryNumber
 pub mod RunLines
 pub mod Timestamps
 pub mod EighthIsFloor
 pub mod WaitingAdjustment
-pub mod Preview
+pub mod PreviewIsRehearsal
 pub mod BeforeWaiting
 pub mod Sheets
 pub mod Examples

@@ -15,7 +15,7 @@ use Rattle.model.specs.Ranges.{valid}
 use Rattle.model.specs.Execute.{execute}
 use Rattle.model.specs.Run.{afterTicks, tickAfter}
 use Rattle.model.specs.Bookings.{ticksTold}
-use Rattle.model.proofs.Laws.RunLine as Law
+use Rattle.model.proofs.Laws.RunOfTicks as Law
 
 -- why a run of at most a ticks on the record e went no further
 pub data Ended (e : Engine) (a : ℕ) (o : Outcome) : Type 0 where

@@ -16,10 +16,10 @@ use Rattle.model.specs.Clock.{endOfTime}
 use Rattle.model.specs.Edges.{codeRising}
 use Rattle.model.specs.Fifo.{lastNanosecond, timestampNs, timestampAt, isFull, entry}
 use Rattle.model.specs.Execute.{execute}
-use Rattle.model.specs.Timestamps.{codeOn, fifoOn, bringsEdge, edgeInstant, edgeNs}
-use Rattle.model.specs.Timestamps.{timestampsOn, keepsTime, InOrder}
-use Rattle.model.proofs.Laws.Fifo.{read-stored, others-kept}
-use Rattle.model.proofs.Laws.Timestamps as Law
+use Rattle.model.specs.TimestampsOn.{codeOn, fifoOn, bringsEdge, edgeInstant, edgeNs}
+use Rattle.model.specs.TimestampsOn.{timestampsOn, keepsTime, Ascending}
+use Rattle.model.proofs.Laws.FifoPlaces.{read-stored, others-kept}
+use Rattle.model.proofs.Laws.NeverBack as Law
 
 -- In 1/2048 ns: x is the instant, A + p × S / 8, and t its timestamp. Late by half a nanosecond at most, and early by
 -- less than that: so an instant just between two goes upward.
@@ -63,5 +63,5 @@ stored i e c edge room eight =
     (record { one-more = refl; there = read-stored f t in-it; others = others-kept f t })
 
 -- from every record and through every list, refused commands included
-pub never-back : (i : ℕ) (e : Engine) (cs : List Command) → keepsTime e cs ≡ true → InOrder (timestampsOn i e cs)
-never-back = Law.in-order
+pub never-back : (i : ℕ) (e : Engine) (cs : List Command) → keepsTime e cs ≡ true → Ascending (timestampsOn i e cs)
+never-back = Law.ascending

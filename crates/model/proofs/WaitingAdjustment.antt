@@ -9,8 +9,8 @@ use Rattle.model.specs.declared.Command.{Command}
 use Rattle.model.specs.declared.Steering.{Steering}
 use Rattle.model.specs.Clock.{exact, noAdjustment}
 use Rattle.model.specs.Interrupts.{hasBit}
-use Rattle.model.specs.Orders.{adjustmentIn}
-use Rattle.model.specs.Bounds.{AdjustmentIn}
+use Rattle.model.specs.OtherOps.{adjustmentIn}
+use Rattle.model.specs.Bounds.{AdjustmentRange}
 use Rattle.model.specs.Checks.{passes}
 use Rattle.model.specs.Execute.{execute}
 use Rattle.model.proofs.Laws.Waiting as Law
@@ -28,12 +28,12 @@ taken-gets-11 = Law.taken-eleven
 
 -- "zero when unused and checked like the running one": where the answer is not 4, a waiting adjustment is in range and
 -- stands behind a running one, and an unused place is zero
-pub record WaitsInOrder (s : Steering) : Type 0 where
+pub record WaitingPlace (s : Steering) : Type 0 where
   pub unused : s .waiting .cycles ≡ 0 → s .waiting ≡ noAdjustment
-  pub used : 0 < s .waiting .cycles → AdjustmentIn (s .waiting)
+  pub used : 0 < s .waiting .cycles → AdjustmentRange (s .waiting)
   pub behind : 0 < s .waiting .cycles → 0 < s .adjustment .cycles
 
-pub passes-4 : (e : Engine) (c : Command) → (execute e c .answer ≡ 4 → ⊥) → WaitsInOrder (e .steering)
+pub passes-4 : (e : Engine) (c : Command) → (execute e c .answer ≡ 4 → ⊥) → WaitingPlace (e .steering)
 passes-4 e c n = record { unused = Law.unused e c n; used = Law.used e c n; behind = Law.behind e c n }
 
 -- 4 "is also given if one waits while none runs"

@@ -10,7 +10,7 @@ use Rattle.model.specs.declared.Words.{Words}
 use Rattle.model.specs.Words.{five}
 use Rattle.model.specs.Edges.{codeRising, codeEighth}
 use Rattle.model.specs.Run.{Entry, history}
-use Rattle.model.specs.Ledger.{Edge, Ledger, none, openLedger, ordered, orderOf, ledgerTicks, ledgerEdges}
+use Rattle.model.specs.Ledger.{Edge, Ledger, none, openLedger, nextAmount, orderOf, ledgerTicks, ledgerEdges}
 use Rattle.model.specs.Ledger.{ledgerWords, ledgerCommanded, ledgerOrder}
 
 -- the ticks that a run line tells: low 16 bits in v3, the rest in v4 (document 02, A.1)
@@ -40,7 +40,7 @@ edgeOf n l x = record {
   rising = codeRising (codeFor n x);
   eighth = codeEighth (codeFor n x);
   time = l .time;
-  amount = ordered (l .steering);
+  amount = nextAmount (l .steering);
 }
 
 abbrev pub edgesIn : ℕ → Ledger → Entry → List Edge

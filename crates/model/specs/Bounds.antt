@@ -5,29 +5,30 @@ use Rattle.model.specs.declared.Clock.{Clock}
 use Rattle.model.specs.declared.Adjustment.{Adjustment}
 use Rattle.model.specs.declared.Generator.{Generator}
 use Rattle.model.specs.declared.Words.{Words}
+use Rattle.model.specs.Units.{nsPerSecond}
 use Rattle.model.specs.Generator.{pendingTotal}
 
-pub record ClockIn (k : Clock) : Type 0 where
+pub record ClockRange (k : Clock) : Type 0 where
   pub seconds : k .seconds < 2 ^ 48
-  pub nanoseconds : k .nanoseconds < 1000000000
+  pub nanoseconds : k .nanoseconds < nsPerSecond
   pub fraction : k .fraction < 256
   pub remainder : k .remainder < 2 ^ 24
 
 -- an amount of a cycle: NS not 0, and 40 bits
-pub record AmountIn (x : ℕ) : Type 0 where
+pub record AmountRange (x : ℕ) : Type 0 where
   pub low : 2 ^ 32 ≤ x
   pub high : x < 2 ^ 40
 
 -- an adjustment with cycles left, running or waiting
-pub record AdjustmentIn (j : Adjustment) : Type 0 where
-  pub amount : AmountIn (j .amount)
+pub record AdjustmentRange (j : Adjustment) : Type 0 where
+  pub amount : AmountRange (j .amount)
   pub some : 0 < j .cycles
   pub cycles : j .cycles < 2 ^ 24
 
 -- a running generator at a time shown
-pub record RunningIn (g : Generator) (now : ℕ) : Type 0 where
+pub record RunningRange (g : Generator) (now : ℕ) : Type 0 where
   pub seconds : g .pending .seconds < 2 ^ 48
-  pub nanoseconds : g .pending .nanoseconds < 1000000000
+  pub nanoseconds : g .pending .nanoseconds < nsPerSecond
   pub remainder : g .pending .remainder < g .denominator
   pub wide : 256 ≤ g .whole
   pub whole : g .whole ≤ 999999999
@@ -39,7 +40,7 @@ pub record RunningIn (g : Generator) (now : ℕ) : Type 0 where
   pub mark : g .mark ≤ 1
   pub ahead : now * g .denominator ≤ pendingTotal g * 256
 
-pub record WordsIn (w : Words) : Type 0 where
+pub record WordsRange (w : Words) : Type 0 where
   pub w1 : w .w1 < 2 ^ 16
   pub w2 : w .w2 < 2 ^ 16
   pub w3 : w .w3 < 2 ^ 16

@@ -9,6 +9,7 @@ use lib.Dec.{eqb, leb, ltb}
 use lib.ListN.{length}
 use Rattle.model.specs.declared.Engine.{Engine}
 use Rattle.model.specs.declared.Command.{Command}
+use Rattle.model.specs.Units.{nsPerSecond}
 use Rattle.model.specs.Tests.{Check, check, holdsAt, firstFailed}
 use Rattle.model.specs.Words.{nanosecondsIn, aboveNanoseconds, wholeIn, belowFrac, countIn}
 use Rattle.model.specs.Clock.{shown}
@@ -16,7 +17,7 @@ use Rattle.model.specs.Fifo.{isEmpty}
 use Rattle.model.specs.Generator.{isRunning}
 use Rattle.model.specs.Record.{fifo, generator}
 use Rattle.model.specs.Tick.{endsInTime, inTimeFor}
-use Rattle.model.specs.Orders.{adjustWritten}
+use Rattle.model.specs.OtherOps.{adjustWritten}
 use Rattle.model.specs.Ops.{ops}
 use Rattle.model.specs.Ranges.{valid}
 use Rattle.model.specs.Fields.{fieldsOk}
@@ -82,7 +83,7 @@ laterRows =
     ∷ row 11 adjusts (λ e c. eqb (e .steering .waiting .cycles) 0)
     ∷ row 12 (isOp 3) (λ e c. ltb (c .e) (c .f))
     ∷ row 13 (isOp 3) (λ e c. not (isRunning (generator e (c .a))))
-    ∷ row 14 (isOp 3) (λ e c. leb (shown (e .clock)) ((c .b * 1000000000 + c .c) * 256))
+    ∷ row 14 (isOp 3) (λ e c. leb (shown (e .clock)) ((c .b * nsPerSecond + c .c) * 256))
     ∷ row 15 isTicking (λ e c. inTime (isOp 10 c) e (c .a))
     ∷ []
 

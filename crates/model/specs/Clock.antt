@@ -5,10 +5,11 @@ use lib.Dec.{eqb}
 use Rattle.model.specs.declared.Clock.{Clock}
 use Rattle.model.specs.declared.Adjustment.{Adjustment}
 use Rattle.model.specs.declared.Steering.{Steering}
+use Rattle.model.specs.Units.{nsPerSecond}
 
 -- the time shown, as a number of 1/256 ns
 abbrev pub shown : Clock → ℕ
-shown k = (k .seconds * 1000000000 + k .nanoseconds) * 256 + k .fraction
+shown k = (k .seconds * nsPerSecond + k .nanoseconds) * 256 + k .fraction
 
 -- the exact time, remainder included, as a number of 2^-32 ns
 abbrev pub exact : Clock → ℕ
@@ -16,13 +17,13 @@ exact k = shown k * 2 ^ 24 + k .remainder
 
 -- the end of the last second, 2^48 s, in 1/256 ns
 abbrev pub endOfTime : ℕ
-endOfTime = 2 ^ 48 * 1000000000 * 256
+endOfTime = 2 ^ 48 * nsPerSecond * 256
 
 -- the clock that shows t, with a remainder
 abbrev pub clockAt : ℕ → ℕ → Clock
 clockAt t remainder = record {
-  seconds = t / 256 / 1000000000;
-  nanoseconds = t / 256 % 1000000000;
+  seconds = t / 256 / nsPerSecond;
+  nanoseconds = t / 256 % nsPerSecond;
   fraction = t % 256;
   remainder = remainder;
 }

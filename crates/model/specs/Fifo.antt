@@ -6,6 +6,7 @@ use lib.ListN.{getD, set, replicate}
 use lib.Dec.{eqb, leb}
 use Rattle.model.specs.declared.Timestamp.{Timestamp}
 use Rattle.model.specs.declared.Fifo.{Fifo}
+use Rattle.model.specs.Units.{nsPerSecond}
 use Rattle.model.specs.Edges.{codeRising, codeEighth}
 
 abbrev pub noTimestamp : Timestamp
@@ -16,7 +17,7 @@ emptyFifo = record { entries = replicate 8 noTimestamp; count = 0 }
 
 -- 999,999,999 ns of the last second
 abbrev pub lastNanosecond : ℕ
-lastNanosecond = 2 ^ 48 * 1000000000 - 1
+lastNanosecond = 2 ^ 48 * nsPerSecond - 1
 
 -- A + p × S / 8 to the nearest ns, a half upward; A and S are in 1/256 ns. Document 02, A.2.
 abbrev pub nearestNs : ℕ → ℕ → ℕ → ℕ
@@ -28,7 +29,7 @@ timestampNs a s p = min lastNanosecond (nearestNs a s p)
 
 -- so many ns since zero, as a timestamp
 abbrev pub timestampAt : ℕ → ℕ → Timestamp
-timestampAt ns rising = record { seconds = ns / 1000000000; nanoseconds = ns % 1000000000; rising = rising }
+timestampAt ns rising = record { seconds = ns / nsPerSecond; nanoseconds = ns % nsPerSecond; rising = rising }
 
 -- the timestamp of an input edge in a tick of step s from the time shown a
 unfoldable pub timestampOf : ℕ → ℕ → ℕ → Timestamp

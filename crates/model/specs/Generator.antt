@@ -5,6 +5,7 @@ use mathlib.Core.Bool.{Bool, _&&_, _||_, not, cond}
 use lib.Dec.{eqb, leb, ltb}
 use Rattle.model.specs.declared.Instant.{Instant}
 use Rattle.model.specs.declared.Generator.{Generator}
+use Rattle.model.specs.Units.{nsPerSecond}
 use Rattle.model.specs.Edges.{edgeCode}
 
 abbrev pub noInstant : Instant
@@ -26,7 +27,7 @@ isRunning g = not (eqb (g .left) 0)
 
 -- the pending instant E times D: an exact number of 1/D ns
 abbrev pub pendingTotal : Generator → ℕ
-pendingTotal g = (g .pending .seconds * 1000000000 + g .pending .nanoseconds) * g .denominator + g .pending .remainder
+pendingTotal g = (g .pending .seconds * nsPerSecond + g .pending .nanoseconds) * g .denominator + g .pending .remainder
 
 -- the interval W + N/D times D
 abbrev pub intervalTotal : Generator → ℕ
@@ -34,7 +35,7 @@ intervalTotal g = g .whole * g .denominator + g .numerator
 
 -- the instant of t / D ns
 abbrev pub instantAt : ℕ → ℕ → Instant
-instantAt t d = record { seconds = t / d / 1000000000; nanoseconds = t / d % 1000000000; remainder = t % d }
+instantAt t d = record { seconds = t / d / nsPerSecond; nanoseconds = t / d % nsPerSecond; remainder = t % d }
 
 -- the ideal instant after the pending one
 unfoldable pub nextInstant : Generator → Instant

@@ -34,7 +34,7 @@ pub record EdgesPassed (start interval : Fraction) (count : ℕ) (edges : List E
   pub startDen : 0 < start .den
   pub intervalDen : 0 < interval .den
   pub asMany : length edges ≡ passed start interval count now
-  pub inOrder : AlternateFrom 0 edges
+  pub alternating : AlternateFrom 0 edges
 
 -- second bullet: while an order stands its edges are edges 0 to j - 1; without an order there are none
 abbrev pub EdgesReturned : Order → List Edge → Fraction → Type 0

@@ -8,6 +8,7 @@ use lib.Dec.{eqb}
 use lib.ListN.{getD}
 use Rattle.model.specs.declared.Command.{Command}
 use Rattle.model.specs.declared.Words.{Words}
+use Rattle.model.specs.Units.{nsPerSecond}
 use Rattle.model.specs.Words.{noWords, secondsIn, nanosecondsIn, amountIn, countIn}
 use Rattle.model.specs.Fractions.{Fraction, over, plus}
 
@@ -64,8 +65,8 @@ openLedger = record {
 }
 
 -- the amount ordered for the next cycle: PER_ADJ where cycles are owed, else PERIOD
-abbrev pub ordered : LedgerSteering → Fraction
-ordered s = cond (eqb (s .owed) 0) (s .period) (s .adjust)
+abbrev pub nextAmount : LedgerSteering → Fraction
+nextAmount s = cond (eqb (s .owed) 0) (s .period) (s .adjust)
 
 -- the write that waits "becomes PER_ADJ and the cycles owed when a tick takes the last one" (document 02, A.4)
 abbrev pub turnOf : Waiting → LedgerSteering → LedgerSteering
@@ -83,7 +84,7 @@ cycleTaken s =
 abbrev pub ledgerTicked : Ledger → Ledger
 ledgerTicked l = record {
   words = l .words;
-  time = plus (l .time) (ordered (l .steering));
+  time = plus (l .time) (nextAmount (l .steering));
   steering = cycleTaken (l .steering);
   train1 = l .train1;
   train2 = l .train2;
@@ -115,7 +116,7 @@ ledgerWords l w =
 abbrev pub ledgerTime : Ledger → Ledger
 ledgerTime l = record {
   words = l .words;
-  time = over (secondsIn (l .words) * 1000000000 + nanosecondsIn (l .words)) 1;
+  time = over (secondsIn (l .words) * nsPerSecond + nanosecondsIn (l .words)) 1;
   steering = l .steering;
   train1 = opened none;
   train2 = opened none;
@@ -139,14 +140,14 @@ ledgerPeriod l =
     })
 
 -- "an adjust write waits while cycles are owed" (document 02, A.4)
-abbrev pub adjustOrdered : LedgerSteering → Fraction → ℕ → LedgerSteering
-adjustOrdered s amount count =
+abbrev pub adjustTold : LedgerSteering → Fraction → ℕ → LedgerSteering
+adjustTold s amount count =
     cond (eqb (s .owed) 0)
     (record { period = s .period; adjust = amount; owed = count; waiting = s .waiting })
     (record { period = s .period; adjust = s .adjust; owed = s .owed; waiting = waits amount count })
 
 abbrev pub ledgerAdjust : Ledger → Ledger
-ledgerAdjust l = ledgerSteering l (adjustOrdered (l .steering) (amountWritten l) (countIn (l .words)))
+ledgerAdjust l = ledgerSteering l (adjustTold (l .steering) (amountWritten l) (countIn (l .words)))
 
 -- the writes by their selector, from 0; any other selector writes nothing
 abbrev pub ledgerWritings : List (Ledger → Ledger)
@@ -172,4 +173,4 @@ ledgerOrder l n o = record {
 
 -- op 3: start b s c ns, interval d + e/f ns, count g
 abbrev pub orderOf : Command → Order
-orderOf c = standing (over (c .b * 1000000000 + c .c) 1) (plus (over (c .d) 1) (over (c .e) (c .f))) (c .g)
+orderOf c = standing (over (c .b * nsPerSecond + c .c) 1) (plus (over (c .d) 1) (over (c .e) (c .f))) (c .g)

@@ -11,7 +11,7 @@ use Rattle.model.specs.Record.{withWords, withGenerator}
 use Rattle.model.specs.Outcome.{refused, accepted}
 use Rattle.model.specs.Tick.{tickValues, tickEngine}
 use Rattle.model.specs.RunLine.{ran}
-use Rattle.model.specs.Orders.{loadedWords, commanded, armedBy, interruptsRead, maskSet, justFirst, statusOf}
+use Rattle.model.specs.OtherOps.{loadedWords, commanded, armedBy, interruptsRead, maskSet, justFirst, statusOf}
 use Rattle.model.specs.Preview.{previewed}
 
 -- tick, load words, command, arm, stop, read interrupts, set the enable mask, read status, show the words; run, preview

@@ -7,7 +7,7 @@ use Rattle.model.specs.declared.Engine.{Engine}
 use Rattle.model.specs.declared.Command.{Command}
 use Rattle.model.specs.declared.Outcome.{Outcome}
 use Rattle.model.specs.Tick.{noInputs, ticks}
-use Rattle.model.specs.Orders.{adjustWritten, readWords}
+use Rattle.model.specs.OtherOps.{adjustWritten, readWords}
 use Rattle.model.specs.Outcome.{accepted}
 
 -- the preview of a ticks

@@ -13,6 +13,7 @@ use Rattle.model.specs.declared.Generator.{Generator}
 use Rattle.model.specs.declared.Interrupts.{Interrupts}
 use Rattle.model.specs.declared.Words.{Words}
 use Rattle.model.specs.declared.Engine.{Engine}
+use Rattle.model.specs.Units.{nsPerSecond}
 use Rattle.model.specs.Tests.{every, everyBelow}
 use Rattle.model.specs.Clock.{shown}
 use Rattle.model.specs.Fifo.{entry}
@@ -23,7 +24,7 @@ abbrev pub secondsOk : ℕ → Bool
 secondsOk s = ltb s (2 ^ 48)
 
 abbrev pub nanosecondsOk : ℕ → Bool
-nanosecondsOk n = ltb n 1000000000
+nanosecondsOk n = ltb n nsPerSecond
 
 abbrev pub clockTests : Clock → List Bool
 clockTests k =

@@ -1,39 +1,31 @@
--- The command sheet: its first line, its value lines, the answer to the sheet as a whole, its commands, and the sheet
--- of a list of commands. Document 01, "Command sheet" and "Where each command is checked", numbers 1 to 3.
-use Prim.Native.Nat.{ℕ, _+_, _^_}
+-- The command sheet: its form, its lines as commands, and the decimal text of a list of commands. Document 01, "Command
+-- sheet".
+use Prim.Native.Nat.{ℕ, _^_}
 use mathlib.Core.List.{List, [], _∷_, _++_, map}
 use mathlib.Core.Bool.{Bool, true, false, _&&_, cond}
-use lib.Dec.{eqb, ltb}
-use lib.ListN.{length, getD, drop}
+use lib.Dec.{ltb}
+use lib.ListN.{getD, replicate}
 use Rattle.model.specs.declared.Command.{Command}
 use Rattle.model.specs.declared.Line.{Line}
 use Rattle.model.specs.declared.Verdict.{Verdict}
 use Rattle.model.specs.Tests.{every}
-use Rattle.model.specs.Text.{bytes, comma, lineEnd, isValue, numberAfter, parts, row}
+use Rattle.model.specs.Text.{bytes, row}
+use Rattle.model.specs.Forms.{Form, decimalValue, readsLine, rowIn, rowsOf, rowsIn, linesVerdict, verdictOf}
+use Rattle.model.specs.Forms.{WritesSheet}
 
 -- the version of the sheet format: 1 is document 01's, 2 has run lines, 3 previews (document 02, A.1 and A.5). A change
 -- of what a sheet may say counts it on
 abbrev pub sheetVersion : ℕ
 sheetVersion = 3
 
--- `op,a,b,c,d,e,f,g,h` and its line end
+-- `op,a,b,c,d,e,f,g,h` and its line end, then lines of nine values
 abbrev pub firstLine : List ℕ
 firstLine = bytes "op,a,b,c,d,e,f,g,h\n"
 
-abbrev pub startsWith : List ℕ → List ℕ → Bool
-startsWith [] s = true
-startsWith (h ∷ hs) [] = false
-startsWith (h ∷ hs) (b ∷ bs) = eqb b h && startsWith hs bs
+unfoldable pub commandSheet : Form
+commandSheet = record { firstLine = firstLine; values = replicate 9 decimalValue }
 
-abbrev pub allValues : List (List ℕ) → Bool
-allValues [] = true
-allValues (p ∷ ps) = isValue p && allValues ps
-
--- a value line, without its line end: nine values
-unfoldable pub isLine : List ℕ → Bool
-isLine bs = eqb (length (parts comma bs)) 9 && allValues (parts comma bs)
-
--- nine numbers as a command
+-- nine numbers as a command, and a command as nine numbers
 abbrev pub commandOf : List ℕ → Command
 commandOf ns = record {
   op = getD ns 0 0;
@@ -47,9 +39,19 @@ commandOf ns = record {
   h = getD ns 8 0;
 }
 
--- the command of a value line
+abbrev pub fieldsOf : Command → List ℕ
+fieldsOf c = c .op ∷ c .a ∷ c .b ∷ c .c ∷ c .d ∷ c .e ∷ c .f ∷ c .g ∷ c .h ∷ []
+
+-- these bytes are a sheet of these commands
+abbrev pub Writes : List ℕ → List Command → Type 0
+Writes s cs = WritesSheet commandSheet s (map fieldsOf cs)
+
+-- a value line, without its line end, and its command
+abbrev pub isLine : List ℕ → Bool
+isLine bs = readsLine commandSheet bs
+
 abbrev pub commandIn : List ℕ → Command
-commandIn bs = commandOf (map (numberAfter 0) (parts comma bs))
+commandIn bs = commandOf (rowIn commandSheet bs)
 
 abbrev pub noLine : Line
 noLine = record { ok = false; command = commandOf [] }
@@ -57,48 +59,25 @@ noLine = record { ok = false; command = commandOf [] }
 unfoldable pub lineOf : List ℕ → Line
 lineOf bs = cond (isLine bs) (record { ok = true; command = commandIn bs }) noLine
 
--- the sheet is accepted, or refused at a line with a number
-abbrev pub refusedAt : ℕ → ℕ → Verdict
-refusedAt line answer = record { line = line; answer = answer }
+-- the answer to the sheet, and to its value lines from line number k on
+abbrev pub sheetVerdict : List ℕ → Verdict
+sheetVerdict s = verdictOf commandSheet s
 
-abbrev pub sheetAccepted : Verdict
-sheetAccepted = refusedAt 0 0
-
--- the value lines from line number k on; what stands behind the last line end has to be empty
 abbrev pub bodyVerdict : ℕ → List (List ℕ) → Verdict
-bodyVerdict k [] = sheetAccepted
-bodyVerdict k (l ∷ []) = cond (eqb (length l) 0) sheetAccepted (refusedAt k 3)
-bodyVerdict k (l ∷ m ∷ ls) = cond (isLine l) (bodyVerdict (k + 1) (m ∷ ls)) (refusedAt k 3)
+bodyVerdict k ls = linesVerdict commandSheet k ls
 
--- 1 over 65,536 bytes (line 0); 2 first line, of 19 bytes, differs (line 1); 3 first value line of another form (its
--- line)
-unfoldable pub sheetVerdict : List ℕ → Verdict
-sheetVerdict s =
-    cond (ltb 65536 (length s)) (refusedAt 0 1)
-    (cond (startsWith firstLine s)
-    (bodyVerdict 2 (parts lineEnd (drop 19 s)))
-    (refusedAt 1 2))
-
--- the commands of the value lines; what stands behind the last line end is none
+-- the commands of the value lines, and of an accepted sheet
 abbrev pub commandsOf : List (List ℕ) → List Command
-commandsOf [] = []
-commandsOf (l ∷ []) = []
-commandsOf (l ∷ m ∷ ls) = commandIn l ∷ commandsOf (m ∷ ls)
+commandsOf ls = map commandOf (rowsOf commandSheet ls)
 
--- the commands of an accepted sheet
 unfoldable pub commandsIn : List ℕ → List Command
-commandsIn s = commandsOf (parts lineEnd (drop 19 s))
+commandsIn s = map commandOf (rowsIn commandSheet s)
 
--- a command as nine numbers
-abbrev pub fieldsOf : Command → List ℕ
-fieldsOf c = c .op ∷ c .a ∷ c .b ∷ c .c ∷ c .d ∷ c .e ∷ c .f ∷ c .g ∷ c .h ∷ []
-
--- the value lines of a list of commands
+-- the value lines of a list of commands in decimal, and the sheet
 abbrev pub linesText : List Command → List ℕ
 linesText [] = []
 linesText (c ∷ cs) = row (fieldsOf c) ++ linesText cs
 
--- the sheet of a list of commands
 unfoldable pub sheetText : List Command → List ℕ
 sheetText cs = firstLine ++ linesText cs
 

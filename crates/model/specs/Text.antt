@@ -52,6 +52,12 @@ noValue = record { ok = false; number = 0 }
 unfoldable pub valueOf : List ℕ → Value
 valueOf bs = cond (isValue bs) (record { ok = true; number = numberAfter 0 bs }) noValue
 
+-- a text begins with another
+abbrev pub startsWith : List ℕ → List ℕ → Bool
+startsWith [] s = true
+startsWith (h ∷ hs) [] = false
+startsWith (h ∷ hs) (b ∷ bs) = eqb b h && startsWith hs bs
+
 -- a separator begins a new part, and any other byte goes in front of the first
 abbrev pub intoParts : Bool → ℕ → List (List ℕ) → List (List ℕ)
 intoParts true b ps = [] ∷ ps

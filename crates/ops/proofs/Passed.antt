@@ -8,21 +8,21 @@ use lib.Dec.{eqb, leb}
 use borrow.Author.Tests.{eqb-true, eqb-false, eq-eqb, ne-eqb, lt-leb}
 use Rattle.model.specs.declared.Engine.{Engine}
 use Rattle.model.specs.declared.Command.{Command}
-use Rattle.model.specs.Bounds.{WordsIn}
+use Rattle.model.specs.Bounds.{WordsRange}
 use Rattle.model.specs.declared.Words.{Words}
 use Rattle.model.specs.Words.{noWords, timeWords}
 use Rattle.model.specs.Fifo.{entry}
 use Rattle.model.specs.Record.{withWords, fifo}
 use Rattle.model.specs.Outcome.{accepted}
-use Rattle.model.specs.Orders.{written, stampWords, readWords, readEngine, commanded}
+use Rattle.model.specs.OtherOps.{written, stampWords, readWords, readEngine, commanded}
 use Rattle.model.specs.Checks.{isOp, readsFifo}
-use Rattle.model.proofs.Laws.Ranges.{valid-parts, words-in}
+use Rattle.model.proofs.Laws.InRange.{valid-parts, words-in}
 use Rattle.model.proofs.Laws.Parts.{fifo-at-ok}
-use Rattle.model.proofs.Laws.Checks.{Accepted, accepted-facts, by-write}
+use Rattle.model.proofs.Laws.Accepting.{Accepted, accepted-facts, by-write}
 use Rattle.model.proofs.Laws.Valid.{reads-fifo, fifo-filled}
 use Rattle.change.specs.declared.Change.{Change}
 use Rattle.change.specs.Changes.{changeTo, applied, oldestTaken, outcomeOf, movesFifo, Gives}
-use Rattle.change.proofs.Given.{order-still}
+use Rattle.change.proofs.Given.{others-still}
 use Rattle.ops.specs.Reading.{Commands, Readable, wordsRead}
 
 -- not empty is holding some
@@ -33,12 +33,12 @@ module _ (e : Engine) (c : Command) (k : Commands e c) where
   facts : Accepted e c
   facts = accepted-facts e c (k .passed)
 
-  pub words-within : WordsIn (e .words)
+  pub words-within : WordsRange (e .words)
   words-within = words-in (e .words) (valid-parts e (facts .valid) .words)
 
   -- no tick
-  ordered : eqb (c .op) 0 ≡ false
-  ordered = ne-eqb (c .op) 0 (λ z. omega (arith, k .op, z))
+  no-tick : eqb (c .op) 0 ≡ false
+  no-tick = ne-eqb (c .op) 0 (λ z. omega (arith, k .op, z))
 
   reads-none : eqb (c .b) 8 ≡ true → readsFifo c ≡ false
   reads-none b8 =
@@ -50,7 +50,7 @@ module _ (e : Engine) (c : Command) (k : Commands e c) where
   unfolding commanded
   written-gives now is b8 =
       let outcome = by-write Same e (c .a) (search) in
-      rw is (record { is = rw b8 outcome; moving = sym (order-still e c ordered (reads-none b8)) })
+      rw is (record { is = rw b8 outcome; moving = sym (others-still e c no-tick (reads-none b8)) })
     where
       Same : Engine → Type 0
       Same x = outcomeOf e c (changeTo 0 noWords x false) ≡ accepted noWords x
@@ -84,7 +84,7 @@ module _ (e : Engine) (c : Command) (k : Commands e c) where
             outcomeOf e c (changeTo 0 (shownWords x) (withWords x (shownWords x)) false)
             ≡ accepted (shownWords x) (withWords x (shownWords x))
     by-selector false y =
-        rw (n8, y, ordered) (by-write Same e (c .a) (search))
+        rw (n8, y, no-tick) (by-write Same e (c .a) (search))
       where
         oldestWords : Engine → Words
         oldestWords x = stampWords (entry (fifo x (c .b)) 0)
@@ -100,8 +100,8 @@ module _ (e : Engine) (c : Command) (k : Commands e c) where
     unfolding movesFifo
     moves-by true y =
         let b0 = eqb-true (c .b) 0 y in
-        sym (order-still e c ordered (rw (lt-leb 1 (c .b) (omega arith), and-false (isOp 2 c)) refl))
-    moves-by false y = rw (eq-eqb _ _ (k .passed), ordered, reads y) refl
+        sym (others-still e c no-tick (rw (lt-leb 1 (c .b) (omega arith), and-false (isOp 2 c)) refl))
+    moves-by false y = rw (eq-eqb _ _ (k .passed), no-tick, reads y) refl
 
     pub read-gives : Gives e c (commanded e (c .a) (c .b)) changeNow
     read-gives = record {

@@ -10,7 +10,7 @@ use Rattle.model.specs.declared.Words.{Words}
 use Rattle.model.specs.Words.{timeWords}
 use Rattle.model.specs.Fifo.{isEmpty, entry}
 use Rattle.model.specs.Record.{fifo}
-use Rattle.model.specs.Orders.{stampWords}
+use Rattle.model.specs.OtherOps.{stampWords}
 use Rattle.model.specs.Ranges.{fifoOk}
 use Rattle.model.specs.Checks.{answerOf}
 

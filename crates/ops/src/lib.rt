@@ -8,9 +8,9 @@ ghost use Rattle.model.specs.Words.{noWords};
 ghost use Rattle.model.specs.Fifo.{isEmpty, entry};
 ghost use Rattle.model.specs.Generator.{idleGenerator};
 ghost use Rattle.model.specs.Record.{withWords, withGenerator, fifo};
-ghost use Rattle.model.specs.Orders.{justFirst, loadedWords, armedBy, maskSet, statusOf, interruptsRead, commanded};
-ghost use Rattle.model.specs.Orders.{timeWritten, periodWritten, adjustWritten, written};
-ghost use Rattle.model.specs.Bounds.{WordsIn};
+ghost use Rattle.model.specs.OtherOps.{justFirst, loadedWords, armedBy, maskSet, statusOf, interruptsRead, commanded};
+ghost use Rattle.model.specs.OtherOps.{timeWritten, periodWritten, adjustWritten, written};
+ghost use Rattle.model.specs.Bounds.{WordsRange};
 ghost use Rattle.change.specs.Changes.{changeTo, oldestTaken, Gives};
 ghost use Rattle.ops.specs.Reading.{Commands, Readable, wordsRead};
 use change::Change;
@@ -66,7 +66,7 @@ pub fn load_words(e: Engine, c: Command) -> Change
 
 // Op 2, write 0: TIME clears fraction and remainder and stops both generators.
 fn write_time(e: Engine) -> Engine
-    requires { ⌜ WordsIn (e .words) ⌝ }
+    requires { ⌜ WordsRange (e .words) ⌝ }
     ensures { λ r. ⌜ r ≡ timeWritten e ⌝ }
 {
     let k = clock::set_clock(words::seconds_in(e.words), words::nanoseconds_in(e.words));
@@ -76,7 +76,7 @@ fn write_time(e: Engine) -> Engine
 
 // Op 2, write 1: PERIOD. The remainder stays.
 fn write_period(e: Engine) -> Engine
-    requires { ⌜ WordsIn (e .words) ⌝ }
+    requires { ⌜ WordsRange (e .words) ⌝ }
     ensures { λ r. ⌜ r ≡ periodWritten e ⌝ }
 {
     let adjustment = e.steering.adjustment;
@@ -93,7 +93,7 @@ fn write_period(e: Engine) -> Engine
 
 // Op 2, write 2: the adjustment.
 fn write_adjustment(e: Engine) -> Engine
-    requires { ⌜ WordsIn (e .words) ⌝ }
+    requires { ⌜ WordsRange (e .words) ⌝ }
     ensures { λ r. ⌜ r ≡ adjustWritten e ⌝ }
 {
     let j = words::adjustment_in(e.words);
@@ -102,7 +102,7 @@ fn write_adjustment(e: Engine) -> Engine
 
 // Op 2, the write by its selector; 16 writes nothing.
 fn write(e: Engine, selector: u64) -> Engine
-    requires { ⌜ WordsIn (e .words) ⌝ }
+    requires { ⌜ WordsRange (e .words) ⌝ }
     ensures { λ r. ⌜ r ≡ written e selector ⌝ }
 {
     match selector {

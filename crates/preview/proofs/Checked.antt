@@ -11,16 +11,16 @@ use Rattle.model.specs.declared.Command.{Command}
 use Rattle.model.specs.Tests.{every}
 use Rattle.model.specs.Words.{noWords, wholeIn, countIn}
 use Rattle.model.specs.Tick.{inTimeFor}
-use Rattle.model.specs.Orders.{adjustWritten, readWords}
+use Rattle.model.specs.OtherOps.{adjustWritten, readWords}
 use Rattle.model.specs.Preview.{rehearsed, previewed}
 use Rattle.model.specs.Ops.{performed}
 use Rattle.model.specs.Ranges.{valid}
 use Rattle.model.specs.Fields.{previewFields, fieldsOk, fieldTests}
 use Rattle.model.specs.Checks.{answerOf, checks}
 use Rattle.model.specs.Execute.{execute}
-use Rattle.model.proofs.Laws.Tests.{facts}
+use Rattle.model.proofs.Laws.Testing.{facts}
 use Rattle.change.specs.Changes.{changeTo, Gives}
-use Rattle.change.proofs.Given.{refused-gives, order-still}
+use Rattle.change.proofs.Given.{refused-gives, others-still}
 use Rattle.preview.specs.Previews.{refusalBefore}
 
 -- what a preview with no refusal before its ticks has passed
@@ -50,14 +50,14 @@ pub few-ticks : (e : Engine) (c : Command) → Passed e c → c .a ≤ 1000
 few-ticks e c p = leb-true (c .a) 1000 (facts (previewFields c) (p .fields) .1 .0)
 
 -- the tests one after the other: the first that fails, and the ticks where none does
-in-order : (f w n g : Bool) (late : ℕ)
+first-of-tests : (f w n g : Bool) (late : ℕ)
     → cond f (cond (w && true) (cond n (cond g late 11) 10) 9) 6
     ≡ cond (eqb (cond f (cond w (cond n (cond g 0 11) 10) 9) 6) 0) late (cond f (cond w (cond n (cond g 0 11) 10) 9) 6)
-in-order true true true true late = refl
-in-order true true true false late = refl
-in-order true true false g late = refl
-in-order true false n g late = refl
-in-order false w n g late = refl
+first-of-tests true true true true late = refl
+first-of-tests true true true false late = refl
+first-of-tests true true false g late = refl
+first-of-tests true false n g late = refl
+first-of-tests false w n g late = refl
 
 module _ (e : Engine) (c : Command) (v : valid e ≡ true) (o : c .op ≡ 10) where
   preview-answer : answerOf e c
@@ -65,7 +65,7 @@ module _ (e : Engine) (c : Command) (v : valid e ≡ true) (o : c .op ≡ 10) wh
   unfolding answerOf checks fieldsOk fieldTests refusalBefore
   preview-answer =
       rw (v, o)
-      (in-order (every (previewFields c)) (leb 1 (wholeIn (e .words))) (leb 1 (countIn (e .words)))
+      (first-of-tests (every (previewFields c)) (leb 1 (wholeIn (e .words))) (leb 1 (countIn (e .words)))
       (eqb (e .steering .waiting .cycles) 0) _)
 
   pub refused-before : (refusalBefore e c ≡ 0 → ⊥)
@@ -87,5 +87,5 @@ module _ (e : Engine) (c : Command) (v : valid e ≡ true) (o : c .op ≡ 10) wh
     unfolding execute performed previewed
     shown-gives t = record {
       is = rw (preview-answer, p, t, o) refl;
-      moving = sym (order-still e c (rw o refl) (rw o refl));
+      moving = sym (others-still e c (rw o refl) (rw o refl));
     }

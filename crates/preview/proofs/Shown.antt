@@ -14,13 +14,13 @@ use Rattle.model.specs.declared.Steering.{Steering}
 use Rattle.model.specs.Words.{timeWords}
 use Rattle.model.specs.Clock.{endOfTime, clockAtExact, adjustedBy}
 use Rattle.model.specs.Tick.{inTimeFor}
-use Rattle.model.specs.Orders.{adjustmentIn, adjustWritten, readWords}
+use Rattle.model.specs.OtherOps.{adjustmentIn, adjustWritten, readWords}
 use Rattle.model.specs.Preview.{rehearsed}
 use Rattle.model.specs.Elapse.{amountOf}
 use Rattle.model.specs.Ranges.{steeringOk}
-use Rattle.model.proofs.Laws.Ranges.{Valid, valid-parts, clock-in}
+use Rattle.model.proofs.Laws.InRange.{Valid, valid-parts, clock-in}
 use Rattle.model.proofs.Laws.Valid.{adjust-written-valid}
-use Rattle.model.proofs.Laws.Elapse.{shownAfter}
+use Rattle.model.proofs.Laws.Elapsed.{shownAfter}
 use Rattle.model.proofs.Laws.Rehearsed.{ticks-at, in-time-by}
 use Rattle.elapse.specs.Reach.{second, inSecond}
 use Rattle.elapse.proofs.Numbers.{amount-low, from-second}

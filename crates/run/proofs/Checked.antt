@@ -16,9 +16,9 @@ use Rattle.model.specs.Ranges.{valid}
 use Rattle.model.specs.Fields.{runFields, fieldsOk, fieldTests}
 use Rattle.model.specs.Checks.{answerOf, checks}
 use Rattle.model.specs.Execute.{execute}
-use Rattle.model.proofs.Laws.Tests.{facts}
+use Rattle.model.proofs.Laws.Testing.{facts}
 use Rattle.change.specs.Changes.{changeTo, Gives}
-use Rattle.change.proofs.Given.{refused-gives, order-still}
+use Rattle.change.proofs.Given.{refused-gives, others-still}
 use Rattle.run.specs.Runs.{ranTo}
 use Rattle.run.proofs.Kept.{run-applied}
 
@@ -44,5 +44,5 @@ module _ (e : Engine) (c : Command) (v : valid e ≡ true) (o : c .op ≡ 9) whe
     unfolding execute performed ran
     run-gives t = record {
       is = ap (accepted (runValues (run (c .a) e))) (run-applied (c .a) e) ∙ rw (run-answer, f, t, o) refl;
-      moving = sym (order-still e c (rw o refl) (rw o refl));
+      moving = sym (others-still e c (rw o refl) (rw o refl));
     }

@@ -13,12 +13,12 @@ use Rattle.model.specs.Clock.{endOfTime}
 use Rattle.model.specs.Tick.{endsInTime, tickValues, noInputs}
 use Rattle.model.specs.RunLine.{Stretch, oneTick, placesEdge, hasEnded, oneMore, run}
 use Rattle.model.specs.Elapse.{elapsed}
-use Rattle.model.proofs.Laws.Ranges.{Valid, parts-valid}
-use Rattle.model.proofs.Laws.Interrupts.{placed-due}
+use Rattle.model.proofs.Laws.InRange.{Valid, parts-valid}
+use Rattle.model.proofs.Laws.Latching.{placed-due}
 use Rattle.model.proofs.Laws.RunTicks.{run-valid}
 use Rattle.model.proofs.Laws.Ticks.{tick-answer}
-use Rattle.model.proofs.Laws.Elapse.{shownAfter, isDueBy, Quiet, due, shown-elapsed, due-elapsed, shown-grows}
-use Rattle.model.proofs.Laws.Elapse.{quiet-less, elapsed-zero, tick-elapsed, values-elapsed}
+use Rattle.model.proofs.Laws.Elapsed.{shownAfter, isDueBy, Quiet, due, shown-elapsed, due-elapsed, shown-grows}
+use Rattle.model.proofs.Laws.Elapsed.{quiet-less, elapsed-zero, tick-elapsed, values-elapsed}
 use Rattle.tick.specs.Ticks.{Ticks}
 use Rattle.run.specs.Runs.{quietly}
 

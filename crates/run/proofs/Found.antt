@@ -13,9 +13,9 @@ use Rattle.model.specs.Tick.{noInputs}
 use Rattle.model.specs.RunLine.{oneTick, run}
 use Rattle.model.specs.Elapse.{amountOf, elapsed}
 use Rattle.model.specs.Ranges.{generatorOk}
-use Rattle.model.proofs.Laws.Ranges.{Valid}
-use Rattle.model.proofs.Laws.Tests.{or-right}
-use Rattle.model.proofs.Laws.Elapse.{shownAfter, isDueBy, Quiet, shown-grows, not-due-earlier}
+use Rattle.model.proofs.Laws.InRange.{Valid}
+use Rattle.model.proofs.Laws.Testing.{or-right}
+use Rattle.model.proofs.Laws.Elapsed.{shownAfter, isDueBy, Quiet, shown-grows, not-due-earlier}
 use Rattle.elapse.specs.Reach.{edgeTick, ticksInTime}
 use Rattle.elapse.proofs.Numbers.{amount-low}
 use Rattle.elapse.proofs.Edges.{edge-none, edge-some, TimeFor, time-for}

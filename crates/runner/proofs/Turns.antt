@@ -14,15 +14,17 @@ use Rattle.model.specs.Ranges.{valid}
 use Rattle.model.specs.Record.{powerOn}
 use Rattle.model.specs.Run.{historyBy, historyFrom}
 use Rattle.model.specs.Text.{lineEnd, parts, firstPart}
-use Rattle.model.specs.Sheet.{isLine, commandIn, noLine, lineOf, sheetAccepted, bodyVerdict, sheetVerdict}
+use Rattle.model.specs.Forms.{sheetAccepted}
+use Rattle.model.specs.Sheet.{commandSheet, isLine, commandIn, noLine, lineOf, bodyVerdict, sheetVerdict}
 use Rattle.model.specs.Sheet.{commandsOf, commandsIn}
 use Rattle.model.specs.Results.{resultLine, resultLines, commandResults}
-use Rattle.model.proofs.Laws.Sheets.{accepted-in, commands-few}
+use Rattle.model.proofs.Laws.Splits.{parts-some}
+use Rattle.model.proofs.Laws.CommandSheets.{accepted-in, commands-few}
 use Rattle.model.proofs.Laws.Valid.{power-on-valid}
 use Rattle.engine.specs.Stepped.{Stepped}
-use Rattle.sheet.specs.declared.Next.{Next}
-use Rattle.sheet.specs.Reading.{ReadAt}
-use Rattle.values.proofs.Parts.{parts-some, parts-more}
+use Rattle.lines.specs.declared.Next.{Next}
+use Rattle.lines.specs.Reading.{ReadAt}
+use Rattle.values.proofs.Parts.{parts-more}
 use Rattle.sheet.proofs.Body.{LineTo, read-whole, read-end, line-passed, line-refused}
 use Rattle.writing.specs.Written.{Written}
 use Rattle.writing.proofs.Puts.{Rest, rest-whole, rest-room, rest-less, rest-none}
@@ -44,7 +46,7 @@ pub run-start : (s out : List ℕ) (from : ℕ) (e : Engine) → sheetVerdict s 
     → from + length (commandResults s) ≤ length out
     → e ≡ powerOn
     → RanTo s out from out e 2 19 from
-unfolding commandsIn
+unfolding commandsIn commandSheet
 run-start s out from e h room on =
     let body = accepted-in s h in record {
       within = omega (arith, commands-few s h);

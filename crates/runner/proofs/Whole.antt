@@ -9,10 +9,11 @@ use borrow.Author.Tests.{le-leb, lt-leb}
 use Rattle.model.specs.declared.Verdict.{Verdict}
 use Rattle.model.specs.declared.Words.{Words}
 use Rattle.model.specs.Words.{noWords}
-use Rattle.model.specs.Sheet.{sheetAccepted, sheetVerdict}
+use Rattle.model.specs.Forms.{sheetAccepted}
+use Rattle.model.specs.Sheet.{sheetVerdict}
 use Rattle.model.specs.Results.{resultHead, resultLine, commandResults, results, resultsRoom}
-use Rattle.model.proofs.Laws.Results.{verdict-answer-zero, command-results-length, refused-length}
-use Rattle.model.proofs.Laws.Results.{results-accepted, results-refused}
+use Rattle.model.proofs.Laws.ResultsFit.{verdict-answer-zero, command-results-length, refused-length}
+use Rattle.model.proofs.Laws.ResultsFit.{results-accepted, results-refused}
 use Rattle.writing.specs.Written.{Written}
 use Rattle.writing.proofs.Puts.{put-length, written-then}
 use Rattle.runner.specs.Ran.{Ran}

@@ -4,7 +4,8 @@
 ghost use Prim.Native.Nat.{_+_, _≤_};
 ghost use mathlib.Core.Path.{_≡_};
 ghost use lib.ListN.{length};
-ghost use Rattle.model.specs.Sheet.{sheetAccepted, sheetVerdict};
+ghost use Rattle.model.specs.Forms.{sheetAccepted};
+ghost use Rattle.model.specs.Sheet.{sheetVerdict};
 ghost use Rattle.model.specs.Results.{resultLine, commandResults};
 ghost use Rattle.writing.specs.Written.{Written};
 ghost use Rattle.runner.specs.Ran.{Ran};
@@ -54,14 +55,9 @@ fn put_results(s: &[u8], out: &mut [u8], from: usize) -> usize
     let mut end = from;
     let mut answer: u64 = 0;
     while at < s.len() {
-        let mut command = sheet::command_of([0u64; 9]);
-        let mut line_end = at + 17;
-        if !sheet::is_tick_at(s, at) {
-            let next = sheet::read_at(s, at);
-            let line = next.line;
-            command = line.command;
-            line_end = next.end;
-        }
+        let next = lines::next_at(s, at);
+        let line = next.line;
+        let command = line.command;
         let m = engine::change_by(e, command);
         if m.moves {
             e = engine::move_fifos(e, command);
@@ -70,7 +66,7 @@ fn put_results(s: &[u8], out: &mut [u8], from: usize) -> usize
         answer = m.answer;
         let values = m.values;
         end = put_result(out, end, k, answer, values);
-        at = line_end + 1;
+        at = next.end + 1;
         k += 1;
     }
     end

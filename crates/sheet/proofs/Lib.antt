@@ -1,10 +1,3 @@
--- Why reading part by part and line by line gives what the definitions say of the whole.
-pub mod Lines
-pub mod FirstLine
-pub mod LineParts
-pub mod Rows
-pub mod Eights
-pub mod Ticks
-pub mod Digits
-pub mod TicksLines
+-- Why a sheet may be judged by its head first, and why the lines that are left give the verdict on all.
+pub mod Head
 pub mod Body

@@ -7,7 +7,7 @@ use Rattle.model.specs.declared.Fifo.{Fifo}
 use Rattle.model.specs.declared.Generator.{Generator}
 use Rattle.model.specs.Fifo.{isEmpty, isFull, capturesFirst, overflows}
 use Rattle.model.specs.Generator.{isDue, isLast, placed, completesEvent, completesSequence}
-use Rattle.model.proofs.Laws.Interrupts.{placed-due}
+use Rattle.model.proofs.Laws.Latching.{placed-due}
 
 module _ (g : Generator) (a s : ℕ) where
   pub event-placed : (not (eqb (placed g a s) 0) && completesEvent g a s) ≡ completesEvent g a s

@@ -10,12 +10,13 @@ use Rattle.model.specs.declared.Generator.{Generator}
 use Rattle.model.specs.Clock.{shown, cycleAmount, ticked}
 use Rattle.model.specs.Tick.{tickStep}
 use Rattle.model.specs.Ranges.{generatorOk}
-use Rattle.model.specs.Bounds.{ClockIn}
-use Rattle.model.proofs.Laws.Ranges.{Valid, valid-parts, clock-in}
-use Rattle.model.proofs.Laws.Clock.{cycle-amount-in, shown-ticked, ticked-ok}
-use Rattle.model.proofs.Laws.Fields.{TickFields, tick-fields}
-use Rattle.model.proofs.Laws.Checks.{Accepted, tick-first, accepted-facts}
-use Rattle.model.proofs.Laws.Tick.{tick-step-bounds}
+use Rattle.model.specs.Bounds.{ClockRange}
+use Rattle.model.specs.Sentences.{Codes}
+use Rattle.model.proofs.Laws.InRange.{Valid, valid-parts, clock-in}
+use Rattle.model.proofs.Laws.ExactTime.{cycle-amount-in, shown-ticked, ticked-ok}
+use Rattle.model.proofs.Laws.Listed.{listed-in}
+use Rattle.model.proofs.Laws.Accepting.{Accepted, tick-first, accepted-facts}
+use Rattle.model.proofs.Laws.TickRange.{tick-step-bounds}
 use Rattle.clock.specs.Cycle.{Cycle}
 use Rattle.fifo.specs.Capture.{Capturing}
 use Rattle.generator.specs.Advance.{Ticking}
@@ -28,7 +29,7 @@ module _ (e : Engine) (c : Command) (t : Ticks e c) where
   parts : Valid e
   parts = valid-parts e (facts .valid)
 
-  pub clock-within : ClockIn (e .clock)
+  pub clock-within : ClockRange (e .clock)
   clock-within = clock-in (e .clock) (parts .clock)
 
   pub amount-low : cycleAmount (e .steering) < 2 ^ 40
@@ -56,8 +57,8 @@ module _ (e : Engine) (c : Command) (t : Ticks e c) where
   }
 
   -- an input's code may be captured
-  pub codes-few : TickFields c
-  codes-few = tick-fields c (facts .fields) (t .op)
+  pub codes-few : Codes c
+  codes-few = listed-in c (facts .fields) .tick (t .op) .0
 
   pub capturing : (code : ℕ) → code ≤ 16 → Capturing (e .clock) (tickStep e) code
   capturing code few = record {

@@ -1,5 +1,5 @@
--- Ticks on an engine with orders, for the benchmark. Orders and input codes come from the caller, so that a compiler
--- cannot work them out beforehand; with counts of 0 nothing is ordered, and the engine is idle.
+-- Ticks on an engine that runs trains and adjustments, for the benchmark. Counts and input codes come from the caller,
+-- so that a compiler cannot work them out beforehand; with counts of 0 the engine is idle.
 use Prim.Native.Nat.{ℕ, zero, suc}
 use mathlib.Core.Path.{_≡_}
 use mathlib.Core.Bool.{true, false}
@@ -16,10 +16,10 @@ use Rattle.model.specs.Run.{engineAfter}
 use Rattle.model.specs.Sheet.{commandOf}
 use Rattle.tick_bench.specs.declared.Run.{Run}
 
--- an order that moves no FIFO, on a valid record
+-- a command that moves no FIFO, on a valid record
 pub record Still (e : Engine) (c : Command) : Type 0 where
   pub on : valid e ≡ true
-  pub order : eqb (c .op) 0 ≡ false
+  pub no-tick : eqb (c .op) 0 ≡ false
   pub reads-none : readsFifo c ≡ false
 
 -- the record after it, valid again
@@ -28,8 +28,8 @@ pub record Gave (e : Engine) (c : Command) (r : Engine) : Type 0 where
   pub keeps : valid r ≡ true
 
 -- so many cycles of 7.5 ns (COUNT 15:0), and two trains of so many marked edges
-abbrev pub orders : ℕ → ℕ → List Command
-orders cycles edges =
+abbrev pub beforehand : ℕ → ℕ → List Command
+beforehand cycles edges =
     commandOf (1 ∷ 0 ∷ cycles ∷ 0 ∷ 0 ∷ 1920 ∷ 0 ∷ 0 ∷ 0 ∷ [])
     ∷ commandOf (2 ∷ 2 ∷ 8 ∷ 0 ∷ 0 ∷ 0 ∷ 0 ∷ 0 ∷ 0 ∷ [])
     ∷ commandOf (3 ∷ 1 ∷ 0 ∷ 3 ∷ 256 ∷ 1 ∷ 3 ∷ edges ∷ 1 ∷ [])
@@ -57,9 +57,9 @@ pub record TicksTo (from : Run) (c : Command) (n : ℕ) (r : Run) : Type 0 where
   pub is : r ≡ ticks c n from
   pub keeps : valid (r .engine) ≡ true
 
--- the orders given, nothing told yet
+-- the commands given, nothing told yet
 abbrev pub startOf : ℕ → ℕ → Run
-startOf cycles edges = record { engine = engineAfter (orders cycles edges); told = 0 }
+startOf cycles edges = record { engine = engineAfter (beforehand cycles edges); told = 0 }
 
 -- the nanoseconds shown, with the bits of all that was told
 abbrev pub seen : Run → ℕ

@@ -4,7 +4,7 @@ ghost use mathlib.Core.Path.{_≡_};
 ghost use mathlib.Core.Bool.{true};
 ghost use Rattle.model.specs.Ranges.{valid};
 ghost use Rattle.model.specs.Run.{engineAfter};
-ghost use Rattle.tick_bench.specs.Ticks.{Still, Gave, orders, tickOf, TicksTo, ticks, startOf, seen};
+ghost use Rattle.tick_bench.specs.Ticks.{Still, Gave, beforehand, tickOf, TicksTo, ticks, startOf, seen};
 use model::Command;
 use model::Engine;
 
@@ -13,22 +13,22 @@ fn give(e: Engine, c: Command) -> Engine
     requires { ⌜ Still e c ⌝ }
     ensures { λ r. ⌜ Gave e c r ⌝ }
 {
-    let m = engine::order(e, c);
+    let m = engine::other(e, c);
     change::apply(e, m)
 }
 
-// The record with the orders given.
-fn ordered(cycles: u64, edges: u64) -> Engine
-    ensures { λ r. ⌜ r ≡ engineAfter (orders cycles edges) ⌝ }
+// The record with the commands given.
+fn prepared(cycles: u64, edges: u64) -> Engine
+    ensures { λ r. ⌜ r ≡ engineAfter (beforehand cycles edges) ⌝ }
 {
     let on = engine::power_on();
-    let loaded = give(on, sheet::command_of([1, 0, cycles, 0, 0, 1920, 0, 0, 0]));
-    let steered = give(loaded, sheet::command_of([2, 2, 8, 0, 0, 0, 0, 0, 0]));
+    let loaded = give(on, lines::command_of([1, 0, cycles, 0, 0, 1920, 0, 0, 0]));
+    let steered = give(loaded, lines::command_of([2, 2, 8, 0, 0, 0, 0, 0, 0]));
     let one = give(
         steered,
-        sheet::command_of([3, 1, 0, 3, 256, 1, 3, edges, 1]),
+        lines::command_of([3, 1, 0, 3, 256, 1, 3, edges, 1]),
     );
-    give(one, sheet::command_of([3, 2, 0, 5, 300, 6, 7, edges, 1]))
+    give(one, lines::command_of([3, 2, 0, 5, 300, 6, 7, edges, 1]))
 }
 
 // The record after ticks, and the bits of every answer and code told on the way, so that none is left out.
@@ -42,7 +42,7 @@ fn ticked(from: Run, code: u64, n: u64, checked: bool) -> Run
     requires { ⌜ valid (from .engine) ≡ true ⌝ }
     ensures { λ r. ⌜ TicksTo from (tickOf code) n r ⌝ }
 {
-    let c = sheet::command_of([0, code, code, code, 0, 0, 0, 0, 0]);
+    let c = lines::command_of([0, code, code, code, 0, 0, 0, 0, 0]);
     let mut e = from.engine;
     let mut told = from.told;
     let mut i: u64 = 0;
@@ -70,7 +70,7 @@ fn ticked(from: Run, code: u64, n: u64, checked: bool) -> Run
     }
 }
 
-// After the orders and so many ticks with an edge on each input, n ticks with a code on each, the record checked
+// After these commands and so many ticks with an edge on each input, n ticks with a code on each, the record checked
 // before each of these where `checked` is 1: the nanoseconds shown at the end with the bits of all that was told.
 #[no_mangle]
 pub extern "C" fn tick_bench_ticks(
@@ -84,7 +84,7 @@ pub extern "C" fn tick_bench_ticks(
     ensures { λ r. ⌜ r ≡ seen (ticks (tickOf code) n (ticks (tickOf 16) stamps (startOf cycles edges))) ⌝ }
 {
     let start = Run {
-        engine: ordered(cycles, edges),
+        engine: prepared(cycles, edges),
         told: 0,
     };
     let end = ticked(ticked(start, 16, stamps, false), code, n, checked == 1);

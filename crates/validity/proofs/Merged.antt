@@ -7,7 +7,7 @@ use native.Mathlib.Omega.{arith}
 use lib.Bits.{bitOr, or-lt, or-comm}
 use lib.Dec.{ltb, leb, eqb, leb·suc-suc, leb·suc-zero, eqb·suc-zero}
 use borrow.Author.Tests.{ltb-true, lt-ltb}
-use Rattle.model.proofs.Laws.Tests.{both, both-true}
+use Rattle.model.proofs.Laws.Testing.{both, both-true}
 use Rattle.interrupts.proofs.Masks.{le-or, both-ways}
 
 pub or-below : (k x y : ℕ) → ltb (bitOr x y) (2 ^ k) ≡ (ltb x (2 ^ k) && ltb y (2 ^ k))

@@ -11,5 +11,5 @@ abbrev pub ofThree : (Fifo → Bool) → Fifo → Fifo → Fifo → Bool
 ofThree test x y z = test x && (test y && test z)
 
 -- nothing was seen that is out of range
-unfoldable pub inOrder : Seen → Bool
-inOrder s = not (s .late) && (eqb (s .rest) 0 && (ltb (s .seconds) (2 ^ 48) && leb (s .rising) 1))
+unfoldable pub inRange : Seen → Bool
+inRange s = not (s .late) && (eqb (s .rest) 0 && (ltb (s .seconds) (2 ^ 48) && leb (s .rising) 1))

@@ -8,11 +8,11 @@ ghost use Prim.Native.Nat.{_<_};
 ghost use lib.Dec.{eqb};
 ghost use Rattle.model.specs.Tests.{every, everyBelow};
 ghost use Rattle.model.specs.Clock.{shown};
-ghost use Rattle.model.specs.Bounds.{ClockIn};
+ghost use Rattle.model.specs.Bounds.{ClockRange};
 ghost use Rattle.model.specs.Ranges.{clockOk, amountOk, adjustmentOk, steeringOk, timestampOk, timestampZero};
 ghost use Rattle.model.specs.Ranges.{placeOk, fifoOk};
 ghost use Rattle.model.specs.Ranges.{runningTests, idleTests, generatorOk, interruptsOk, wordsOk, valid};
-ghost use Rattle.validity.specs.Fifos.{ofThree, inOrder};
+ghost use Rattle.validity.specs.Fifos.{ofThree, inRange};
 use model::Adjustment;
 use model::Clock;
 use model::ENABLED_MASK;
@@ -98,7 +98,7 @@ struct Seen {
 
 // One more place, used or not.
 fn see(s: Seen, t: Timestamp, used: bool) -> Seen
-    ensures { λ r. ⌜ inOrder r ≡ (inOrder s && cond used (timestampOk t) (timestampZero t)) ⌝ }
+    ensures { λ r. ⌜ inRange r ≡ (inRange s && cond used (timestampOk t) (timestampZero t)) ⌝ }
 {
     if used {
         return Seen {
@@ -119,7 +119,7 @@ fn see(s: Seen, t: Timestamp, used: bool) -> Seen
 // The places of one index: a used one holds a timestamp in range, and any other holds zero.
 fn see_place(s: Seen, fifo1: Fifo, fifo2: Fifo, fifo3: Fifo, place: usize) -> Seen
     requires { ⌜ place < 8 ⌝ }
-    ensures { λ r. ⌜ inOrder r ≡ (inOrder s && ofThree (λ f. placeOk f place) fifo1 fifo2 fifo3) ⌝ }
+    ensures { λ r. ⌜ inRange r ≡ (inRange s && ofThree (λ f. placeOk f place) fifo1 fifo2 fifo3) ⌝ }
 {
     let n = place as u64;
     let one = see(s, fifo1.entries[place], n < fifo1.count);
@@ -192,7 +192,7 @@ fn idle_ok(g: Generator) -> bool
 
 // Idle and zero, or running with a pending instant that is not before the time shown.
 fn generator_ok(g: Generator, k: Clock) -> bool
-    requires { ⌜ ClockIn k ⌝ }
+    requires { ⌜ ClockRange k ⌝ }
     ensures { λ r. ⌜ r ≡ generatorOk g (shown k) ⌝ }
 {
     if g.left == 0 {

@@ -1,5 +1,5 @@
 -- Why reading a value digit by digit, and up to its comma, gives what the definitions say of the whole.
-pub mod Digits
+pub mod DigitByDigit
 pub mod Values
 pub mod Parts
-pub mod Taking
+pub mod TakenParts

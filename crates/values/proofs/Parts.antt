@@ -13,15 +13,6 @@ use lib.Seq.{take-all, drop-cons, drop-drop}
 use borrow.Author.Tests.{eq-eqb, ne-eqb}
 use Rattle.model.specs.Text.{intoParts, parts, firstPart}
 
-into-some : (t : Bool) (b : ℕ) (ps : List (List ℕ)) → 0 < length (intoParts t b ps)
-into-some true b ps = omega arith
-into-some false b [] = omega arith
-into-some false b (p ∷ ps) = omega arith
-
-pub parts-some : (sep : ℕ) (bs : List ℕ) → 0 < length (parts sep bs)
-parts-some sep [] = omega arith
-parts-some sep (b ∷ bs) = into-some (eqb b sep) b (parts sep bs)
-
 -- the first part, byte by byte
 pub first-into : (t : Bool) (b : ℕ) (ps : List (List ℕ)) → getD (intoParts t b ps) 0 [] ≡ cond t [] (b ∷ getD ps 0 [])
 first-into true b ps = refl

@@ -3,10 +3,10 @@
 // 7-4.
 ghost use mathlib.Core.Path.{_≡_};
 ghost use Prim.Native.Nat.{_≤_};
-ghost use Rattle.model.specs.Bounds.{WordsIn};
+ghost use Rattle.model.specs.Bounds.{WordsRange};
 ghost use Rattle.model.specs.Words.{secondsIn, nanosecondsIn, aboveNanoseconds, timeWords, noWords};
 ghost use Rattle.model.specs.Words.{wholeIn, fracIn, amountIn, belowFrac, countIn};
-ghost use Rattle.model.specs.Orders.{adjustmentIn};
+ghost use Rattle.model.specs.OtherOps.{adjustmentIn};
 use bits::field;
 use bits::join;
 use model::Adjustment;
@@ -14,14 +14,14 @@ use model::Words;
 
 // Write 0, TIME: sec 15:0 | 31:16 | 47:32 | NS 15:0 | NS 29:16.
 pub fn seconds_in(w: Words) -> u64
-    requires { ⌜ WordsIn w ⌝ }
+    requires { ⌜ WordsRange w ⌝ }
     ensures { λ r. ⌜ r ≡ secondsIn w ⌝ }
 {
     join(join(w.w3, w.w2, 16), w.w1, 16)
 }
 
 pub fn nanoseconds_in(w: Words) -> u64
-    requires { ⌜ WordsIn w ⌝ }
+    requires { ⌜ WordsRange w ⌝ }
     ensures { λ r. ⌜ r ≡ nanosecondsIn w ⌝ }
 {
     join(field(w.w5, 0, 14), w.w4, 16)
@@ -42,7 +42,7 @@ pub fn whole_in(w: Words) -> u64
 }
 
 fn frac_in(w: Words) -> u64
-    requires { ⌜ WordsIn w ⌝ }
+    requires { ⌜ WordsRange w ⌝ }
     ensures { λ r. ⌜ r ≡ fracIn w ⌝ }
 {
     join(join(field(w.w5, 0, 8), w.w4, 16), w.w3 >> 8, 8)
@@ -50,7 +50,7 @@ fn frac_in(w: Words) -> u64
 
 // NS above FRAC.
 pub fn amount_in(w: Words) -> u64
-    requires { ⌜ WordsIn w ⌝ }
+    requires { ⌜ WordsRange w ⌝ }
     ensures { λ r. ⌜ r ≡ amountIn w ⌝ }
 {
     join(whole_in(w), frac_in(w), 32)
@@ -65,7 +65,7 @@ pub fn below_frac(w: Words) -> u64
 
 // Write 2: - | COUNT 15:0 | .., COUNT 23:16 | ..
 pub fn count_in(w: Words) -> u64
-    requires { ⌜ WordsIn w ⌝ }
+    requires { ⌜ WordsRange w ⌝ }
     ensures { λ r. ⌜ r ≡ countIn w ⌝ }
 {
     join(field(w.w3, 0, 8), w.w2, 16)
@@ -73,7 +73,7 @@ pub fn count_in(w: Words) -> u64
 
 // Write 2: the adjustment.
 pub fn adjustment_in(w: Words) -> Adjustment
-    requires { ⌜ WordsIn w ⌝ }
+    requires { ⌜ WordsRange w ⌝ }
     ensures { λ r. ⌜ r ≡ adjustmentIn w ⌝ }
 {
     Adjustment {

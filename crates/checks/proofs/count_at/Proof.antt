@@ -1,4 +1,4 @@
--- The definition's tests of the number, in its order.
+-- FIFO 1, FIFO 2, and any other number is 3.
 use borrow.Author.Tests.{eq-eqb, ne-eqb}
 use Rattle.checks.proofs.count_at.Statement.{statement}
 use Rattle.checks.proofs.count_at.Tie as tie

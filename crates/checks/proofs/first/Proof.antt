@@ -1,4 +1,4 @@
--- The two cases of the definition.
+-- The answer that is found stays, and else the check decides by itself.
 use borrow.Author.Needs.{needs}
 use Rattle.checks.proofs.first.Statement.{statement}
 use Rattle.checks.proofs.first.Tie as tie

@@ -1,4 +1,4 @@
--- The definition's tests.
+-- Selectors 1 to 3 of op 2 are those that are at least 1 and at most 3.
 use borrow.Author.Needs.{needs}
 use Rattle.checks.proofs.reads_fifo.Statement.{statement}
 use Rattle.checks.proofs.reads_fifo.Tie as tie

@@ -1,7 +1,7 @@
 -- The table's test of 14.
 use borrow.Author.Needs.{needs}
 use Rattle.model.specs.Checks.{checks}
-use Rattle.model.proofs.Laws.Ranges.{valid-parts, clock-in}
+use Rattle.model.proofs.Laws.InRange.{valid-parts, clock-in}
 use Rattle.checks.proofs.start_ahead.Statement.{statement}
 use Rattle.checks.proofs.start_ahead.Tie as tie
 

@@ -2,7 +2,7 @@
 use mathlib.Core.Bool.{or-false}
 use borrow.Author.Needs.{needs}
 use Rattle.model.specs.Checks.{checks}
-use Rattle.model.proofs.Laws.Ranges.{valid-parts, clock-in}
+use Rattle.model.proofs.Laws.InRange.{valid-parts, clock-in}
 use Rattle.checks.proofs.time_left.Statement.{statement}
 use Rattle.checks.proofs.time_left.Tie as tie
 

@@ -1,7 +1,7 @@
 -- The table's test of 8.
 use borrow.Author.Needs.{needs}
 use Rattle.model.specs.Checks.{checks}
-use Rattle.model.proofs.Laws.Ranges.{valid-parts, words-in}
+use Rattle.model.proofs.Laws.InRange.{valid-parts, words-in}
 use Rattle.checks.proofs.time_ok.Statement.{statement}
 use Rattle.checks.proofs.time_ok.Tie as tie
 

@@ -1,4 +1,4 @@
--- The two cases of the definition.
+-- An adjustment runs exactly where its cycles are not 0, which is what the code asks.
 use borrow.Author.Tests.{eq-eqb, ne-eqb}
 use Rattle.model.specs.Clock.{adjustedBy}
 use Rattle.clock.proofs.adjust.Statement.{statement}

@@ -1,4 +1,4 @@
--- The choice is the definition's.
+-- An adjustment steers exactly where its cycles are not 0, which is what the code asks.
 use borrow.Author.Needs.{needs}
 use Rattle.model.specs.Clock.{cycleAmount}
 use Rattle.clock.proofs.cycle_amount.Statement.{statement}

@@ -1,6 +1,6 @@
 -- The step of an amount in range is small, so that the test of the end of time may be asked.
 use borrow.Author.Needs.{needs}
-use Rattle.model.proofs.Laws.Clock.{cycle-amount-in, step-bounds}
+use Rattle.model.proofs.Laws.ExactTime.{cycle-amount-in, step-bounds}
 use Rattle.clock.proofs.has_time_left.Statement.{statement}
 use Rattle.clock.proofs.has_time_left.Tie as tie
 

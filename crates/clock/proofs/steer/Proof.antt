@@ -1,4 +1,4 @@
--- Each part is the definition's.
+-- Amount, step, steering and TAC are each worked out from the steering before the cycle.
 use borrow.Author.Needs.{needs}
 use Rattle.model.specs.Clock.{lastCycle}
 use Rattle.clock.proofs.steer.Statement.{statement}

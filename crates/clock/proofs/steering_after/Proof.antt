@@ -1,4 +1,4 @@
--- The two cases of the definition; where no cycle is left, none is taken off.
+-- The last cycle is the one of which one is left; where none is left, none is taken off.
 use Prim.Native.Nat.{ℕ, _-_, _≤_}
 use mathlib.Core.Path.{_≡_}
 use mathlib.Core.Bool.{cond}
@@ -7,7 +7,7 @@ use lib.Dec.{eqb}
 use borrow.Author.Needs.{needs}
 use borrow.Author.Tests.{eqb-true, eqb-false, eq-eqb, ne-eqb}
 use Rattle.model.specs.Clock.{lastCycle, steeringAfter}
-use Rattle.model.proofs.Laws.Tests.{split}
+use Rattle.model.proofs.Laws.Testing.{split}
 use Rattle.clock.proofs.steering_after.Statement.{statement}
 use Rattle.clock.proofs.steering_after.Tie as tie
 

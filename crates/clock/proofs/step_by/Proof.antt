@@ -1,4 +1,4 @@
--- The quotient is the definition's; the sum is below 2^41.
+-- The sum is below 2^41, so that it fits, and its quotient is the step.
 use borrow.Author.Needs.{needs}
 use mathlib.Core.Path.{refl}
 use Rattle.model.specs.Clock.{stepBy}

@@ -1,8 +1,9 @@
--- Carrying from place to place splits the total, and the step is the definition's.
+-- Carrying from place to place splits the total that the step brings.
 use Prim.Native.Nat.{_+_, _/_}
 use native.Mathlib.Omega.{arith}
 use borrow.Author.Needs.{needs}
 use mathlib.Core.Path.{_∙_}
+use Rattle.model.specs.Units.{nsPerSecond}
 use Rattle.model.specs.Clock.{ticked, remainderBy}
 use Rattle.tests.proofs.Carry.{Carries}
 use Rattle.clock.proofs.Carries.{second-carries, carried}
@@ -10,7 +11,7 @@ use Rattle.clock.proofs.tick_clock.Statement.{statement}
 use Rattle.clock.proofs.tick_clock.Tie as tie
 
 known : (c : tie.After-pick) → let start = c .before .before .before .args in
-    Carries 1000000000 (start .k .nanoseconds + (start .k .fraction + start .step) / 256) (c .pick .result)
+    Carries nsPerSecond (start .k .nanoseconds + (start .k .fraction + start .step) / 256) (c .pick .result)
 known c =
     let start = c .before .before .before in
     second-carries (start .args .k) _ _ (start .pre .clock) (start .pre .low) (c .pick .ensures)

@@ -5,7 +5,7 @@ use mathlib.Core.Path.{_≡_, sym}
 use native.Mathlib.Omega.{arith}
 use borrow.Author.Needs.{needs}
 use Rattle.model.specs.Elapse.{amountOf}
-use Rattle.model.proofs.Laws.Ranges.{steering-in}
+use Rattle.model.proofs.Laws.InRange.{steering-in}
 use Rattle.elapse.proofs.Numbers.{amount-low, in-none, in-first, in-second, in-third, product-fits}
 use Rattle.elapse.proofs.amount_of.Statement.{statement}
 use Rattle.elapse.proofs.amount_of.Tie as tie

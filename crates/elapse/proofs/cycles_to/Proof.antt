@@ -4,9 +4,9 @@ use native.Mathlib.Nat.{div-le-self}
 use native.Mathlib.Omega.{arith}
 use borrow.Author.Needs.{needs}
 use borrow.Author.Tests.{le-leb, lt-leb}
-use Rattle.model.proofs.Laws.Ranges.{steering-in}
+use Rattle.model.proofs.Laws.InRange.{steering-in}
 use Rattle.elapse.specs.Reach.{cyclesTo}
-use Rattle.elapse.proofs.Reach.{some-amount}
+use Rattle.elapse.proofs.Reached.{some-amount}
 use Rattle.elapse.proofs.Numbers.{product-fits, PickedFor, picked}
 use Rattle.elapse.proofs.cycles_to.Statement.{statement}
 use Rattle.elapse.proofs.cycles_to.Tie as tie

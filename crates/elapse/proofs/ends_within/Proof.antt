@@ -1,4 +1,4 @@
--- The test is the definition's.
+-- An adjustment with cycles ends among n of them exactly where it has at least one and not more than n.
 use borrow.Author.Needs.{needs}
 use Rattle.model.specs.Elapse.{endsWithin}
 use Rattle.elapse.proofs.ends_within.Statement.{statement}

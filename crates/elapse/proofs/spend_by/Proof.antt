@@ -1,4 +1,4 @@
--- The two cases of the definition.
+-- An adjustment is spent exactly where its cycles are not more than n, which is what the code asks.
 use borrow.Author.Needs.{needs}
 use borrow.Author.Tests.{le-leb, lt-leb}
 use Rattle.model.specs.Elapse.{spentBy}

@@ -1,9 +1,10 @@
--- Where none runs none waits, and the steering stays; else the two cases of the definition.
+-- Where none runs none waits, so that the steering stays; else the running one is spent exactly where its cycles are
+-- not more than n, and what it leaves over falls to the one that waits.
 use mathlib.Core.Path.{sym}
 use borrow.Author.Needs.{needs}
 use borrow.Author.Tests.{le-leb, lt-leb}
 use Rattle.model.specs.Elapse.{steeringBy}
-use Rattle.model.proofs.Laws.Ranges.{steering-in}
+use Rattle.model.proofs.Laws.InRange.{steering-in}
 use Rattle.model.proofs.Laws.Phases.{steering-still}
 use Rattle.elapse.proofs.steer_by.Statement.{statement}
 use Rattle.elapse.proofs.steer_by.Tie as tie

@@ -1,7 +1,7 @@
 -- Only in the last second can a stretch pass the end of time; there the tick that would is the one that reaches it.
 use mathlib.Core.Path.{sym, _∙_}
 use borrow.Author.Needs.{needs}
-use Rattle.elapse.proofs.Reach.{cycles-some}
+use Rattle.elapse.proofs.Reached.{cycles-some}
 use Rattle.elapse.proofs.Cases.{all-in-time, some-in-time}
 use Rattle.elapse.proofs.ticks_in_time.Statement.{statement}
 use Rattle.elapse.proofs.ticks_in_time.Tie as tie

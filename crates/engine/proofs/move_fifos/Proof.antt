@@ -1,6 +1,6 @@
--- The definition's two cases; a FIFO that is read was found filled.
+-- A tick stores timestamps; any other command that moves a FIFO is a read, which has found it filled.
 use borrow.Author.Tests.{eq-eqb, ne-eqb}
-use Rattle.model.proofs.Laws.Checks.{accepted-facts}
+use Rattle.model.proofs.Laws.Accepting.{accepted-facts}
 use Rattle.model.proofs.Laws.Valid.{fifo-filled}
 use Rattle.change.proofs.Given.{moves-passed, moves-reads}
 use Rattle.engine.proofs.move_fifos.Statement.{statement}

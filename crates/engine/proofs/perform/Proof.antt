@@ -2,7 +2,7 @@
 -- is op 8. None but op 2 moves a FIFO.
 use mathlib.Core.Path.{refl}
 use borrow.Author.Needs.{needs}
-use Rattle.model.specs.Orders.{interruptsRead}
+use Rattle.model.specs.OtherOps.{interruptsRead}
 use Rattle.engine.proofs.Steps.{last-op, row-gives, stays-gives, latched-low}
 use Rattle.engine.proofs.perform.Statement.{statement}
 use Rattle.engine.proofs.perform.Tie as tie

@@ -1,4 +1,4 @@
--- Every part is the definition's.
+-- The code writes out what the clock set to 0, none and idle are.
 use borrow.Author.Needs.{needs}
 use Rattle.model.specs.Record.{powerOn}
 use Rattle.engine.proofs.power_on.Statement.{statement}

@@ -1,4 +1,4 @@
--- The definition's refusal.
+-- Five zeros, the number and the same record are all that a refusal has.
 use borrow.Author.Needs.{needs}
 use Rattle.engine.proofs.refused.Statement.{statement}
 use Rattle.engine.proofs.refused.Tie as tie

@@ -14,7 +14,7 @@ move-fifos-requires c κs = sym (c .before .pre .moving) ∙ c .if1 .taken
 
 moved-is : (c : tie.Joined1)
     → let start = c .before .args in
-    c .if1 .moved ≡ cond (start .m .moves) (fifosMoved (start .e) (start .c)) (start .e)
+    c .if1 .e ≡ cond (start .m .moves) (fifosMoved (start .e) (start .c)) (start .e)
 moved-is c =
     ⊎-elim
     (λ w. rw (w .2, w .1 .ensures, w .0 .taken) refl)

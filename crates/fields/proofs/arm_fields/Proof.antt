@@ -1,4 +1,4 @@
--- The definition's tests, in its order but grouped.
+-- A call of `both` is a conjunction, so the calls, in groups, are the conjunction of the list.
 use borrow.Author.Needs.{needs}
 use mathlib.Core.Bool.{and-assoc, and-true}
 use Rattle.fields.proofs.arm_fields.Statement.{statement}

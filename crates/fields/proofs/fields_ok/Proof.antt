@@ -3,7 +3,7 @@ use mathlib.Core.Path.{_∙_}
 use native.Mathlib.Omega.{arith}
 use borrow.Author.Needs.{needs}
 use Rattle.model.proofs.Laws.Tables.{past-arms}
-use Rattle.model.proofs.Laws.Fields.{fields-of, fields-past}
+use Rattle.model.proofs.Laws.Listed.{fields-of, fields-past}
 use Rattle.fields.proofs.fields_ok.Statement.{statement}
 use Rattle.fields.proofs.fields_ok.Tie as tie
 

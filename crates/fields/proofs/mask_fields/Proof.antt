@@ -1,4 +1,4 @@
--- The definition's tests, in its order.
+-- A call of `both` is a conjunction, so the calls are the conjunction of the list.
 use borrow.Author.Needs.{needs}
 use Rattle.fields.proofs.mask_fields.Statement.{statement}
 use Rattle.fields.proofs.mask_fields.Tie as tie

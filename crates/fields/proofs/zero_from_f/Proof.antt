@@ -1,4 +1,4 @@
--- The definition's tests, in its order.
+-- A call of `both` is a conjunction, so the calls are the conjunction of the list.
 use borrow.Author.Needs.{needs}
 use mathlib.Core.Bool.{and-true}
 use Rattle.fields.proofs.zero_from_f.Statement.{statement}

@@ -1,4 +1,4 @@
--- The three cases of the definitions: no edge, a full FIFO, a place for it.
+-- Without an edge nothing comes; an edge finds a full FIFO, or a place, and the first of all where there is none yet.
 use native.Mathlib.Omega.{arith}
 use borrow.Author.Tests.{eq-eqb, ne-eqb, le-leb, lt-leb}
 use Rattle.model.specs.Fifo.{capturesFirst, overflows}

@@ -1,4 +1,4 @@
--- The definition's cases: no edge, a place for it, a full FIFO.
+-- Without an edge, or where the FIFO is full, it stays; else the first unused place is that of its count.
 use borrow.Author.Needs.{needs}
 use borrow.Author.Tests.{eq-eqb, ne-eqb, le-leb, lt-leb}
 use Rattle.model.specs.Fifo.{captured}

@@ -1,7 +1,5 @@
 -- The nanoseconds are below two seconds, so that a carry is one at most; where the second is the last, a carry is just
 -- the nanosecond that is one too many.
-use mathlib.Core.Path.{_≡_}
-use mathlib.Core.Bool.{cond}
 use lib.Dec.{leb}
 use native.Mathlib.Omega.{arith}
 use borrow.Author.Needs.{needs}

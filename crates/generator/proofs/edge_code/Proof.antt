@@ -1,4 +1,4 @@
--- The two cases of the definition.
+-- A rising edge, direction 0, has 9 and its eighth, and a falling one 1 and its eighth.
 use borrow.Author.Needs.{needs}
 use borrow.Author.Tests.{eq-eqb, ne-eqb}
 use Rattle.generator.proofs.edge_code.Statement.{statement}

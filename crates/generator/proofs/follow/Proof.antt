@@ -1,4 +1,4 @@
--- The code asks the definition's two tests one by one: of the edges left, then of the next instant.
+-- It becomes idle by its last edge or by an instant past the last second, and the code asks for one after the other.
 use Prim.Native.Nat.{_^_}
 use borrow.Author.Needs.{needs}
 use borrow.Author.Tests.{eq-eqb, ne-eqb, le-leb, lt-leb}

@@ -1,4 +1,4 @@
--- Each turn is one step of the definition, so while no source is found what is left gives the whole answer.
+-- One source of the table decides or leaves the answer to the others: so while none is found what is left gives it.
 use Prim.Native.Nat.{_+_, _-_, _≤_}
 use mathlib.Core.Path.{_≡_, sym, _∙_}
 use mathlib.Core.Bool.{Bool, true, false, _||_}

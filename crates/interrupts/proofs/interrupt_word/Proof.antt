@@ -1,5 +1,4 @@
--- No bit is in both words where none is enabled; else the two cases of the definition's test. A word of 16 bits leaves
--- room for bit 14.
+-- No bit is in both words where none is enabled, else the table is asked. A word of 16 bits leaves room for bit 14.
 use mathlib.Core.Bool.{and-false}
 use borrow.Author.Needs.{needs}
 use native.Mathlib.Nat.{add-zero}

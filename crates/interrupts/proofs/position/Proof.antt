@@ -1,9 +1,9 @@
--- The table of the code is the definition's, and a look at its eleven entries finds each of them below 16.
+-- The code's table has the same eleven numbers, and a look at each finds it below 16.
 use mathlib.Core.Path.{refl}
 use lib.Dec.{ltb}
 use borrow.Author.Needs.{needs}
 use borrow.Author.Tests.{ltb-true}
-use Rattle.model.proofs.Laws.Tests.{below-all}
+use Rattle.model.proofs.Laws.Testing.{below-all}
 use Rattle.interrupts.specs.Position.{positionOf}
 use Rattle.interrupts.proofs.position.Statement.{statement}
 use Rattle.interrupts.proofs.position.Tie as tie

@@ -51,7 +51,7 @@ use Rattle.engine.proofs.move_fifos.Met as shift-thm
 use Rattle.lendaru_panel.specs.Lent.{told}
 use Rattle.lendaru_panel.proofs.Reply as R
 use Rattle.lendaru_panel.proofs.Callees as callees
-use Rattle.lendaru_panel.proofs.Lent as lent
+use Rattle.lendaru_panel.proofs.LentWalk as lent
 use Rattle.lendaru_panel.proofs.change_of as change
 use Rattle.lendaru_panel.proofs.change_of.Symbol as change-def
 use Rattle.lendaru_panel.proofs.change_of.Met as change-thm

@@ -41,7 +41,7 @@ use Rattle.model.specs.declared.Outcome.{Outcome}
 use Rattle.model.proofs.Engine as T
 use Rattle.change.specs.declared.Change.{Change}
 use Rattle.change.specs.Changes.{applied, fifosMoved, Gives}
-use Rattle.change.proofs.Given.{order-still}
+use Rattle.change.proofs.Given.{others-still}
 use Rattle.change.proofs.apply.Symbol as apply-def
 use Rattle.change.proofs.apply.Met as apply-thm
 use Rattle.lendaru_panel.specs.Lent.{told}
@@ -68,7 +68,7 @@ IsRun e a m = Gives e (runLine a) (execute e (runLine a)) m
 run-applied : (e : Engine) (a : ℕ) (m : Change) → IsRun e a m → applied e m ≡ execute e (runLine a) .engine
 run-applied e a m is =
     ap (λ (moves : Bool). applied (cond moves (fifosMoved e (runLine a)) e) m)
-    (sym (is .moving ∙ order-still e (runLine a) refl refl))
+    (sym (is .moving ∙ others-still e (runLine a) refl refl))
     ∙ ap (λ (o : Outcome). o .engine) (is .is)
 
 module _ {M : Type 1} (𝓤 : URA M) (H : Heap 𝓤) (A : Atoms 𝓤) (at-mem : Memory → SProp 𝓤) (run : Routine → Fun 𝓤) where

@@ -100,8 +100,8 @@ starred =
     -- Not starred: the ops are 0 to 10, and the table of checks ends with 15.
     ∷ record { found = length ops ∷ lastNumber ∷ []; stated = 11 ∷ 15 ∷ [] }
     ∷ record { found = answers (line 9 1 0 0 0 0 ∷ line 11 1 0 0 0 0 ∷ []); stated = 0 ∷ 5 ∷ [] }
-    -- Not starred: the versions of the sheet format (run lines and previews counted it on) and of the record (the waiting
-    -- adjustment did).
+    -- Not starred: the versions of the sheet format (run lines and previews counted it on) and of the record (the
+    -- waiting adjustment did).
     ∷ record { found = sheetVersion ∷ recordVersion ∷ []; stated = 3 ∷ 2 ∷ [] }
     -- Not starred: each input has its FIFO and its selector (eighths 1, 3 and 5 of 8 ns).
     ∷ record {

@@ -18,7 +18,7 @@ use Rattle.model.specs.Generator.{isRunning}
 use Rattle.model.specs.Run.{entryOf}
 use Rattle.model.specs.Ledger.{Waiting, noneWaits, waits, LedgerSteering, Edge, Order, none, standing, Ledger}
 use Rattle.model.specs.Bookings.{told}
-use Rattle.model.proofs.Laws.Fractions.{Is}
+use Rattle.model.proofs.Laws.FractionValues.{Is}
 use Rattle.model.proofs.Follow.Train.{Standing}
 
 -- a generator against its order and its returned edges

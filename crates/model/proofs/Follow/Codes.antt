@@ -6,7 +6,7 @@ use native.Mathlib.Omega.{arith}
 use lib.Dec.{eqb}
 use borrow.Author.Tests.{eqb-true, eqb-false, le-leb, lt-leb, ne-eqb}
 use Rattle.model.specs.Edges.{codeRising, codeEighth, edgeCode}
-use Rattle.model.proofs.Laws.Tests.{split}
+use Rattle.model.proofs.Laws.Testing.{split}
 
 -- a code of an edge of a direction (0 rising, 1 falling) at an eighth
 pub record Tells (direction eighth code : ℕ) : Type 0 where

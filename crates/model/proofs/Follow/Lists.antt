@@ -8,6 +8,7 @@ use native.Mathlib.Omega.{arith}
 use Rattle.model.specs.declared.Engine.{Engine}
 use Rattle.model.specs.declared.Command.{Command}
 use Rattle.model.specs.declared.Generator.{Generator}
+use Rattle.model.specs.Units.{stepUnit}
 use Rattle.model.specs.Clock.{shown, endOfTime}
 use Rattle.model.specs.Record.{powerOn}
 use Rattle.model.specs.Ranges.{valid, generatorOk}
@@ -17,9 +18,9 @@ use Rattle.model.specs.Fractions.{over, plus, Same, NotAbove, Below}
 use Rattle.model.specs.Ledger.{Edge, Order, none, standing, Ledger, openLedger}
 use Rattle.model.specs.Bookings.{told, ledgerFrom, ledgerAfter}
 use Rattle.model.specs.Instants.{timeShown, timeLeft, EdgesReturned, EdgesLag}
-use Rattle.model.proofs.Laws.Ranges.{Valid, valid-parts, clock-in}
-use Rattle.model.proofs.Laws.Clock.{shown-low}
-use Rattle.model.proofs.Laws.Fractions.{Is, is-over, is-finer, is-plus, is-same, is-below, is-not-above}
+use Rattle.model.proofs.Laws.InRange.{Valid, valid-parts, clock-in}
+use Rattle.model.proofs.Laws.ExactTime.{shown-low}
+use Rattle.model.proofs.Laws.FractionValues.{Is, is-over, is-finer, is-plus, is-same, is-below, is-not-above}
 use Rattle.model.proofs.Laws.Valid.{power-on-valid, execute-valid}
 use Rattle.model.proofs.Laws.Outcomes.{list-valid}
 use Rattle.model.proofs.Follow.Train.{standing-passed}
@@ -57,14 +58,14 @@ module _ (cs : List Command) where
   parts = valid-parts (engineAfter cs) (list-valid cs)
 
   -- the three times, in 2^-32 ns
-  shown-is : Is (timeShown (engineAfter cs)) (shown (engineAfter cs .clock) * 16777216) (2 ^ 32)
-  shown-is = is-finer 16777216 (omega arith) (is-over _ 256 (omega arith))
+  shown-is : Is (timeShown (engineAfter cs)) (shown (engineAfter cs .clock) * stepUnit) (2 ^ 32)
+  shown-is = is-finer stepUnit (omega arith) (is-over _ 256 (omega arith))
 
   left-is : Is (timeLeft (engineAfter cs)) (engineAfter cs .clock .remainder) (2 ^ 32)
   left-is = is-over _ (2 ^ 32) (omega arith)
 
-  a-256th-is : Is (over 1 256) 16777216 (2 ^ 32)
-  a-256th-is = is-finer 16777216 (omega arith) (is-over 1 256 (omega arith))
+  a-256th-is : Is (over 1 256) stepUnit (2 ^ 32)
+  a-256th-is = is-finer stepUnit (omega arith) (is-over 1 256 (omega arith))
 
   pub exact-time : Same (plus (timeShown (engineAfter cs)) (timeLeft (engineAfter cs))) (ledgerAfter cs .time)
   exact-time = is-same (is-plus shown-is left-is) (agrees .time)

@@ -8,13 +8,13 @@ use Rattle.model.specs.declared.Engine.{Engine}
 use Rattle.model.specs.declared.Command.{Command}
 use Rattle.model.specs.declared.Outcome.{Outcome}
 use Rattle.model.specs.Outcome.{refused}
-use Rattle.model.specs.Orders.{interruptsRead}
+use Rattle.model.specs.OtherOps.{interruptsRead}
 use Rattle.model.specs.Preview.{previewed}
 use Rattle.model.specs.Ranges.{valid}
 use Rattle.model.specs.Execute.{execute}
 use Rattle.model.specs.Ledger.{Ledger}
 use Rattle.model.specs.Bookings.{booked, told}
-use Rattle.model.proofs.Laws.Checks.{by-answer, by-op}
+use Rattle.model.proofs.Laws.Accepting.{by-answer, by-op}
 use Rattle.model.proofs.Follow.Agrees.{Agrees, after}
 use Rattle.model.proofs.Follow.OnTick.{op-0-agrees}
 use Rattle.model.proofs.Follow.OnRun.{op-9-agrees}

@@ -15,7 +15,7 @@ use Rattle.model.specs.Ranges.{valid}
 use Rattle.model.specs.Run.{Entry, entryOf}
 use Rattle.model.specs.Ledger.{Ledger, ledgerTicks, ledgerEdges}
 use Rattle.model.specs.Bookings.{ticksTold, edgesIn, booked, told}
-use Rattle.model.proofs.Laws.Ranges.{Valid, valid-parts}
+use Rattle.model.proofs.Laws.InRange.{Valid, valid-parts}
 use Rattle.model.proofs.Laws.RunTicks.{lastValues, ran-ticks, ticks-valid}
 use Rattle.model.proofs.Follow.Agrees.{Agrees, after}
 use Rattle.model.proofs.Follow.OnTick.{tick-agrees}

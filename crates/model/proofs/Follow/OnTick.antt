@@ -20,19 +20,19 @@ use Rattle.model.specs.Tick.{tickStep, tickEngine, tickValues}
 use Rattle.model.specs.Ranges.{valid, generatorOk}
 use Rattle.model.specs.Run.{Entry, entryOf}
 use Rattle.model.specs.Ledger.{Waiting, noneWaits, waits, LedgerSteering, Edge, Order, none, standing, Ledger}
-use Rattle.model.specs.Ledger.{ordered, turnOf, cycleTaken, ledgerTicked, ledgerTicks, ledgerEdges}
+use Rattle.model.specs.Ledger.{nextAmount, turnOf, cycleTaken, ledgerTicked, ledgerTicks, ledgerEdges}
 use Rattle.model.specs.Bookings.{codeFor, edgesIn, booked, told}
-use Rattle.model.proofs.Laws.Ranges.{Valid, valid-parts, clock-in}
-use Rattle.model.proofs.Laws.Clock.{exact-ticked, shown-ticked, step-left, remainder-low}
-use Rattle.model.proofs.Laws.Fractions.{Is, is-plus}
-use Rattle.model.proofs.Laws.Tick.{tick-step-bounds}
-use Rattle.model.proofs.Follow.Tick.{TickIn, tick-standing}
+use Rattle.model.proofs.Laws.InRange.{Valid, valid-parts, clock-in}
+use Rattle.model.proofs.Laws.ExactTime.{exact-ticked, shown-ticked, step-left, remainder-low}
+use Rattle.model.proofs.Laws.FractionValues.{Is, is-plus}
+use Rattle.model.proofs.Laws.TickRange.{tick-step-bounds}
+use Rattle.model.proofs.Follow.LedgerTick.{TickIn, tick-standing}
 use Rattle.model.proofs.Follow.Agrees.{Follows, Waits, Steers, Agrees, after}
 
 -- the amount ordered is the amount of the cycle
-ordered-is : (s : Steering) (o : LedgerSteering) → Steers s o → Is (ordered o) (cycleAmount s) (2 ^ 32)
+next-amount-is : (s : Steering) (o : LedgerSteering) → Steers s o → Is (nextAmount o) (cycleAmount s) (2 ^ 32)
 unfolding cycleAmount
-ordered-is s o h = rw (h .owes) (by (eqb (s .adjustment .cycles) 0) refl)
+next-amount-is s o h = rw (h .owes) (by (eqb (s .adjustment .cycles) 0) refl)
   where
     by : (b : Bool) → eqb (s .adjustment .cycles) 0 ≡ b
         → Is (cond b (o .period) (o .adjust)) (cond b (s .period) (s .adjustment .amount)) (2 ^ 32)
@@ -51,7 +51,7 @@ tick-in e l p h =
       beforeLow = clock-in (e .clock) (p .clock) .remainder;
       leftLow = remainder-low (e .clock) (cycleAmount (e .steering));
       time = h .time;
-      ordered = ordered-is (e .steering) (l .steering) (h .steering);
+      nextAmount = next-amount-is (e .steering) (l .steering) (h .steering);
     }
 
 -- an idle generator returns no edge
@@ -126,7 +126,7 @@ tick-agrees e l c x p h one two =
     let moved = exact-ticked (e .clock) (cycleAmount (e .steering)) in
     record {
       words = h .words;
-      time = rw moved (is-plus (h .time) (k .ordered));
+      time = rw moved (is-plus (h .time) (k .nextAmount));
       steering = steers-tick (e .steering) (l .steering) (h .steering);
       generator1 =
           rw now

@@ -10,20 +10,21 @@ use Rattle.model.specs.declared.Command.{Command}
 use Rattle.model.specs.declared.Adjustment.{Adjustment}
 use Rattle.model.specs.declared.Steering.{Steering}
 use Rattle.model.specs.declared.Words.{Words}
+use Rattle.model.specs.Units.{nsPerSecond}
 use Rattle.model.specs.Words.{noWords, secondsIn, nanosecondsIn, amountIn, countIn}
 use Rattle.model.specs.Clock.{exact, adjustedBy, clockSet}
 use Rattle.model.specs.Fifo.{popped}
 use Rattle.model.specs.Record.{withWords, fifo, withFifo}
 use Rattle.model.specs.Outcome.{accepted}
-use Rattle.model.specs.Orders.{loadedWords, timeWritten, periodWritten, adjustmentIn, adjustWritten, written}
-use Rattle.model.specs.Orders.{readWords, readEngine, commanded}
+use Rattle.model.specs.OtherOps.{loadedWords, timeWritten, periodWritten, adjustmentIn, adjustWritten, written}
+use Rattle.model.specs.OtherOps.{readWords, readEngine, commanded}
 use Rattle.model.specs.Fractions.{over}
 use Rattle.model.specs.Ledger
 use Rattle.model.specs.Ledger.{LedgerSteering, Ledger}
 use Rattle.model.specs.Bookings.{booked, told}
-use Rattle.model.proofs.Laws.Tests.{split}
-use Rattle.model.proofs.Laws.Checks.{by-write}
-use Rattle.model.proofs.Laws.Fractions.{Is, is-over, is-finer}
+use Rattle.model.proofs.Laws.Testing.{split}
+use Rattle.model.proofs.Laws.Accepting.{by-write}
+use Rattle.model.proofs.Laws.FractionValues.{Is, is-over, is-finer}
 use Rattle.model.proofs.Follow.Agrees.{Steers, Agrees, after}
 
 -- new words on both sides
@@ -39,10 +40,10 @@ load-agrees e l c h o = rw o (words-agree e l (loadedWords c) h)
 -- op 2, the write
 module _ (e : Engine) (l : Ledger) (h : Agrees e l) where
   -- a time of whole ns
-  whole-ns : (s n : ℕ) → Is (over (s * 1000000000 + n) 1) (exact (clockSet s n)) (2 ^ 32)
+  whole-ns : (s n : ℕ) → Is (over (s * nsPerSecond + n) 1) (exact (clockSet s n)) (2 ^ 32)
   whole-ns s n =
-      let x : (s * 1000000000 + n) * 4294967296 ≡ exact (clockSet s n) = omega arith in
-      rw x at (is-finer 4294967296 (omega arith) (is-over (s * 1000000000 + n) 1 (omega arith)))
+      let x : (s * nsPerSecond + n) * 4294967296 ≡ exact (clockSet s n) = omega arith in
+      rw x at (is-finer 4294967296 (omega arith) (is-over (s * nsPerSecond + n) 1 (omega arith)))
 
   time-agrees : Agrees (timeWritten e) (Ledger.ledgerTime l)
   time-agrees = let time = whole-ns (secondsIn (e .words)) (nanosecondsIn (e .words)) in rw (h .words) (search)
@@ -55,7 +56,7 @@ module _ (e : Engine) (l : Ledger) (h : Agrees e l) where
 
   -- an adjust write runs at once, or waits, on both sides
   adjust-steers : Steers (adjustedBy (e .steering) (adjustmentIn (e .words)))
-      (Ledger.adjustOrdered (l .steering) (Ledger.amountWritten l) (countIn (l .words)))
+      (Ledger.adjustTold (l .steering) (Ledger.amountWritten l) (countIn (l .words)))
   unfolding adjustedBy
   adjust-steers =
       let same : eqb (l .steering .owed) 0 ≡ eqb (e .steering .adjustment .cycles) 0 =

@@ -18,9 +18,9 @@ use Rattle.model.specs.Ranges.{generatorOk}
 use Rattle.model.specs.Fractions.{Fraction, over, isBelow}
 use Rattle.model.specs.Ledger.{Edge}
 use Rattle.model.specs.Instants.{ideal, passed, AlternateFrom, EdgesPassed, LagsFrom}
-use Rattle.model.proofs.Laws.Tests.{count-full, count-first}
-use Rattle.model.proofs.Laws.Ranges.{running-in}
-use Rattle.model.proofs.Laws.Fractions.{Is, is-over, is-finer, is-plus, is-part, is-below-test}
+use Rattle.model.proofs.Laws.Testing.{count-full, count-first}
+use Rattle.model.proofs.Laws.InRange.{running-in}
+use Rattle.model.proofs.Laws.FractionValues.{Is, is-over, is-finer, is-plus, is-part, is-below-test}
 
 -- an order in numbers: start in ns, and the interval as i / d ns
 pub record InNumbers (start interval : Fraction) (s i d : ℕ) : Type 0 where
@@ -99,7 +99,7 @@ pub record Standing (start interval : Fraction) (count : ℕ) (edges : List Edge
   pub i : ℕ
   pub d : ℕ
   pub order : InNumbers start interval s i d
-  pub inOrder : AlternateFrom 0 edges
+  pub alternating : AlternateFrom 0 edges
   pub lags : LagsFrom start interval 0 edges
   pub behind : (k : ℕ) → k < length edges → instant s i d k * 256 < now * d
   pub stands : Stands s i d count (length edges) g
@@ -114,5 +114,5 @@ standing-passed {count = count} {edges = edges} {now = now} t ok near = record {
   asMany =
       sym (passed-done (t .order) count (length edges) now (stands-within (t .stands)) (t .behind)
       (stands-ahead now (t .stands) ok near));
-  inOrder = t .inOrder;
+  alternating = t .alternating;
 }

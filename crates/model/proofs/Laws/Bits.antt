@@ -13,7 +13,7 @@ use lib.Bits.{bitOr, or-shr, or-mod, or-zero-r, or-step, or-lt}
 use borrow.Author.Tests.{ltb-true, eqb-true, eqb-false, leb-true, lt-ltb, le-leb}
 use Rattle.model.specs.Tests.{everyBelow}
 use Rattle.model.specs.Interrupts.{positions, bit, hasBit, withBit, latch, onlyBits, latchedMask}
-use Rattle.model.proofs.Laws.Tests.{both, both-true, below-all, all-below}
+use Rattle.model.proofs.Laws.Testing.{both, both-true, below-all, all-below}
 
 -- bitOr with 1 makes a number odd
 or-one : (h : ℕ) → bitOr h 1 ≡ h / 2 * 2 + 1

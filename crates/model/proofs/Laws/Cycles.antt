@@ -11,9 +11,9 @@ use Rattle.model.specs.declared.Clock.{Clock}
 use Rattle.model.specs.declared.Adjustment.{Adjustment}
 use Rattle.model.specs.declared.Steering.{Steering}
 use Rattle.model.specs.Clock
-use Rattle.model.specs.Bounds.{ClockIn}
+use Rattle.model.specs.Bounds.{ClockRange}
 use Rattle.model.specs.Elapse.{amountOf, spentBy, steeringBy}
-use Rattle.model.proofs.Laws.Tests.{split}
+use Rattle.model.proofs.Laws.Testing.{split}
 
 -- the clock at an exact time x: what a tick adds, it adds to x
 pub shown-on : (x amount : ℕ)
@@ -33,7 +33,7 @@ clock-on x amount =
     λ i. Clock.clockAt (t i) (r i)
 
 -- a clock in range is the clock at its exact time
-pub clock-start : (k : Clock) → ClockIn k → Clock.clockAtExact (Clock.exact k) ≡ k
+pub clock-start : (k : Clock) → ClockRange k → Clock.clockAtExact (Clock.exact k) ≡ k
 unfolding Clock.clockAtExact
 clock-start k h =
     let s : Clock.clockAtExact (Clock.exact k) .seconds ≡ k .seconds = omega arith in

@@ -1,6 +1,6 @@
 -- The eighth by the search from the top is the whole part of 8 × (E - A) / S: an eighth starts by E exactly where its
 -- number is not above that whole part, so the first such number from the top is the whole part itself.
-use Prim.Native.Nat.{ℕ, zero, suc, _+_, _*_, _-_, _/_, _<_, _≤_}
+use Prim.Native.Nat.{ℕ, zero, suc, _+_, _*_, _-_, _<_, _≤_}
 use native.Mathlib.Nat.{mul-pos, le-div-iff-mul-le, div-lt-iff-lt-mul}
 use native.Mathlib.Omega.{arith}
 use mathlib.Core.Path.{_≡_, refl, _∙_}
@@ -19,10 +19,10 @@ use Rattle.model.specs.Tick.{tickStep, tickValues}
 use Rattle.model.specs.Ranges.{generatorOk, valid}
 use Rattle.model.specs.Execute.{execute}
 use Rattle.model.specs.FloorEighth.{floorEighth, floorPlaced, floorValues}
-use Rattle.model.proofs.Laws.Tests.{split, both, leb-same}
-use Rattle.model.proofs.Laws.Ranges.{running-in, valid-parts}
-use Rattle.model.proofs.Laws.Checks.{by-answer, performed-row}
-use Rattle.model.proofs.Laws.Tick.{tick-step-bounds}
+use Rattle.model.proofs.Laws.Testing.{split, both, leb-same}
+use Rattle.model.proofs.Laws.InRange.{running-in, valid-parts}
+use Rattle.model.proofs.Laws.Accepting.{by-answer, performed-row}
+use Rattle.model.proofs.Laws.TickRange.{tick-step-bounds}
 
 -- two tests that agree find the same
 pub first-same : (f h : ℕ → Bool) → ((p : ℕ) → f p ≡ h p) → (ps : List ℕ) → firstOf f ps ≡ firstOf h ps

@@ -6,39 +6,40 @@ use mathlib.Core.Path.{_≡_, ap}
 use native.Mathlib.Omega.{arith}
 use native.Mathlib.Nat.{mul-pos, mul-le-mul-left, mul-le-mul-right, div-mul-le-self, div-lt-iff-lt-mul}
 use native.Mathlib.Nat.{lt-div-mul-add}
+use Rattle.model.specs.Units.{eighthUnit, stepUnit}
 
 -- In units of 1/d: r and n the remainders before and after, s the step, a the amount, u the instant minus the time
 -- shown.
-module _ (d r n s a u p : ℕ) (tick : r + a ≡ s * 16777216 + n) (pos : 0 < d) (few : p < 8) where
-  times-p : p * r + p * a ≡ p * s * 16777216 + p * n
+module _ (d r n s a u p : ℕ) (tick : r + a ≡ s * stepUnit + n) (pos : 0 < d) (few : p < 8) where
+  times-p : p * r + p * a ≡ p * s * stepUnit + p * n
   times-p = omega (arith, ap (λ (x : ℕ). p * x) tick)
 
-  pub early : r + d ≤ 16777216 * d → n + d ≤ 16777216 * d → p * s ≤ 8 * u → 8 * r + p * a < 134217728 * (u + d)
+  pub early : r + d ≤ stepUnit * d → n + d ≤ stepUnit * d → p * s ≤ 8 * u → 8 * r + p * a < 8 * stepUnit * (u + d)
   early r-low n-low h =
       let q = 8 - p in
       let both : p + q ≡ 8 = omega arith in
       let in-r : p * r + q * r ≡ 8 * r = omega (arith, ap (λ (x : ℕ). x * r) both) in
       let in-d : p * d + q * d ≡ 8 * d = omega (arith, ap (λ (x : ℕ). x * d) both) in
-      let before : q * (r + d) ≤ q * (16777216 * d) = mul-le-mul-left q r-low in
-      let after : p * (n + d) ≤ p * (16777216 * d) = mul-le-mul-left p n-low in
+      let before : q * (r + d) ≤ q * (stepUnit * d) = mul-le-mul-left q r-low in
+      let after : p * (n + d) ≤ p * (stepUnit * d) = mul-le-mul-left p n-low in
       sum (p * r) (q * r) (p * d) (q * d) (p * n) (p * s) (p * a) in-r in-d (omega arith) (omega arith) times-p h
     where
-      sum : (pr qr pd qd pn ps pa : ℕ) → pr + qr ≡ 8 * r → pd + qd ≡ 8 * d → qr + qd ≤ 16777216 * qd
-          → pn + pd ≤ 16777216 * pd
-          → pr + pa ≡ ps * 16777216 + pn → ps ≤ 8 * u → 8 * r + pa < 134217728 * (u + d)
+      sum : (pr qr pd qd pn ps pa : ℕ) → pr + qr ≡ 8 * r → pd + qd ≡ 8 * d → qr + qd ≤ stepUnit * qd
+          → pn + pd ≤ stepUnit * pd
+          → pr + pa ≡ ps * stepUnit + pn → ps ≤ 8 * u → 8 * r + pa < 8 * stepUnit * (u + d)
       sum pr qr pd qd pn ps pa e₁ e₂ h₁ h₂ t l = omega arith
 
-  pub late : 8 * u < p * s + s → 134217728 * u < 8 * r + p * a + a
+  pub late : 8 * u < p * s + s → 8 * stepUnit * u < 8 * r + p * a + a
   late h =
       let most : (p + 1) * r ≤ 8 * r = mul-le-mul-right r (omega arith) in
       sum (p * r) (p * n) (p * s) (p * a) (omega arith) times-p h
     where
-      sum : (pr pn ps pa : ℕ) → pr + r ≤ 8 * r → pr + pa ≡ ps * 16777216 + pn → 8 * u < ps + s
-          → 134217728 * u < 8 * r + pa + a
+      sum : (pr pn ps pa : ℕ) → pr + r ≤ 8 * r → pr + pa ≡ ps * stepUnit + pn → 8 * u < ps + s
+          → 8 * stepUnit * u < 8 * r + pa + a
       sum pr pn ps pa m t l = omega arith
 
 -- The instant is e / d ns, the time shown A in 1/256 ns, the step S, the remainders r and n, the amount a.
-module _ (e A S r n a d : ℕ) (pos : 0 < d) (step : 0 < S) (tick : r + a ≡ S * 16777216 + n)
+module _ (e A S r n a d : ℕ) (pos : 0 < d) (step : 0 < S) (tick : r + a ≡ S * stepUnit + n)
     (from : A * d ≤ e * 256) (to : e * 256 < (A + S) * d) where
   abbrev pub eighth : ℕ
   eighth = 8 * (e * 256 - A * d) / (S * d)
@@ -49,14 +50,14 @@ module _ (e A S r n a d : ℕ) (pos : 0 < d) (step : 0 < S) (tick : r + a ≡ S 
   pub eighth-few : eighth < 8
   eighth-few = div-lt-iff-lt-mul room .1 (omega arith)
 
-  scaled : r * d + a * d ≡ S * d * 16777216 + n * d
+  scaled : r * d + a * d ≡ S * d * stepUnit + n * d
   scaled = omega (arith, ap (λ (x : ℕ). x * d) tick)
 
-  low : (x : ℕ) → x < 16777216 → x * d + d ≤ 16777216 * d
-  low x h = let m : (x + 1) * d ≤ 16777216 * d = mul-le-mul-right d (omega arith) in omega arith
+  low : (x : ℕ) → x < stepUnit → x * d + d ≤ stepUnit * d
+  low x h = let m : (x + 1) * d ≤ stepUnit * d = mul-le-mul-right d (omega arith) in omega arith
 
-  pub not-early : r < 16777216 → n < 16777216
-      → (8 * (A * 16777216 + r) + eighth * a) * d < e * 34359738368 + 134217728 * d
+  pub not-early : r < stepUnit → n < stepUnit
+      → (8 * (A * stepUnit + r) + eighth * a) * d < e * eighthUnit + 8 * stepUnit * d
   not-early r-low n-low =
       let p = 8 * (e * 256 - A * d) / (S * d) in
       let u = e * 256 - A * d in
@@ -64,7 +65,7 @@ module _ (e A S r n a d : ℕ) (pos : 0 < d) (step : 0 < S) (tick : r + a ≡ S 
       let h = early d (r * d) (n * d) (S * d) (a * d) u p scaled pos eighth-few (low r r-low) (low n n-low) floor in
       omega arith
 
-  pub not-late : e * 34359738368 < (8 * (A * 16777216 + r) + eighth * a) * d + a * d
+  pub not-late : e * eighthUnit < (8 * (A * stepUnit + r) + eighth * a) * d + a * d
   not-late =
       let p = 8 * (e * 256 - A * d) / (S * d) in
       let u = e * 256 - A * d in

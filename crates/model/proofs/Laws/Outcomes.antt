@@ -11,17 +11,17 @@ use Rattle.model.specs.declared.Command.{Command}
 use Rattle.model.specs.declared.Outcome.{Outcome}
 use Rattle.model.specs.Words.{secondsIn, nanosecondsIn, timeWords}
 use Rattle.model.specs.Record.{powerOn}
-use Rattle.model.specs.Orders.{commanded, written, readWords, readEngine}
+use Rattle.model.specs.OtherOps.{commanded, written, readWords, readEngine}
 use Rattle.model.specs.Ops.{performed}
 use Rattle.model.specs.Ranges.{valid}
 use Rattle.model.specs.Checks.{lastNumber, checks, answerOf, passes, Cause}
 use Rattle.model.specs.Execute.{execute}
 use Rattle.model.specs.Run.{engineBy, engineFrom, engineAfter}
-use Rattle.model.proofs.Laws.Tests.{both-true, fails-answer, answer-fails, answer-none, none-answer}
-use Rattle.model.proofs.Laws.Tests.{answer-least, answer-most}
-use Rattle.model.proofs.Laws.Ranges.{valid-parts, words-in}
-use Rattle.model.proofs.Laws.Words.{words-of-time}
-use Rattle.model.proofs.Laws.Checks.{numbered, execute-answer, execute-accepted}
+use Rattle.model.proofs.Laws.Testing.{both-true, fails-answer, answer-fails, answer-none, none-answer}
+use Rattle.model.proofs.Laws.Testing.{answer-least, answer-most}
+use Rattle.model.proofs.Laws.InRange.{valid-parts, words-in}
+use Rattle.model.proofs.Laws.WordFields.{words-of-time}
+use Rattle.model.proofs.Laws.Accepting.{numbered, execute-answer, execute-accepted}
 use Rattle.model.proofs.Laws.Valid.{power-on-valid, execute-valid}
 
 -- the place of check number i + 4

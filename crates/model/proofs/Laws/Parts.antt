@@ -14,10 +14,10 @@ use Rattle.model.specs.Clock.{shown}
 use Rattle.model.specs.Interrupts.{onlyBits, latchedMask, enabledMask}
 use Rattle.model.specs.Record
 use Rattle.model.specs.Ranges
-use Rattle.model.proofs.Laws.Tests.{split, both, both-true}
-use Rattle.model.proofs.Laws.Ranges.{Valid}
-use Rattle.model.specs.Bounds.{WordsIn}
-use Rattle.model.proofs.Laws.Ranges.{words-ok}
+use Rattle.model.proofs.Laws.Testing.{split, both, both-true}
+use Rattle.model.proofs.Laws.InRange.{Valid}
+use Rattle.model.specs.Bounds.{WordsRange}
+use Rattle.model.proofs.Laws.InRange.{words-ok}
 
 -- interrupts
 pub interrupts-in : (i : Interrupts) → Ranges.interruptsOk i ≡ true
@@ -36,7 +36,7 @@ unfolding onlyBits
 none-latched = refl
 
 -- one part replaced
-pub words-valid : (e : Engine) (w : Words) → Valid e → WordsIn w → Valid (Record.withWords e w)
+pub words-valid : (e : Engine) (w : Words) → Valid e → WordsRange w → Valid (Record.withWords e w)
 words-valid e w v h = let ok = words-ok w h in search
 
 pub steering-valid : (e : Engine) (s : Steering) → Valid e → Ranges.steeringOk s ≡ true

@@ -14,9 +14,9 @@ use Rattle.model.specs.Clock.{noAdjustment, lastCycle, steeringAfter}
 use Rattle.model.specs.Interrupts.{withBit}
 use Rattle.model.specs.Ranges.{adjustmentOk}
 use Rattle.model.specs.Elapse.{spentBy, steeringBy, endsWithin, latchedBy}
-use Rattle.model.proofs.Laws.Tests.{split}
+use Rattle.model.proofs.Laws.Testing.{split}
 use Rattle.model.proofs.Laws.Bits.{bit-with-same}
-use Rattle.model.proofs.Laws.Ranges.{SteeringIn, no-adjustment-in}
+use Rattle.model.proofs.Laws.InRange.{SteeringRange, no-adjustment-in}
 
 -- an adjustment after n cycles of its own: over, or with cycles left
 module _ (j : Adjustment) (n : ℕ) where
@@ -80,7 +80,7 @@ alone p j n =
     last (no h) l =
         rw (ne-eqb (j .cycles - n) 1 (λ z. h (omega arith)), spent-still j (suc n) (omega arith), less)
 
-module _ (s : Steering) (v : SteeringIn s) where
+module _ (s : Steering) (v : SteeringRange s) where
   -- where none runs it stays
   pub steering-still : s .adjustment .cycles ≡ 0 → (n : ℕ) → steeringBy s n ≡ s
   steering-still z n =
@@ -161,7 +161,7 @@ set-twice : (x : ℕ) → withBit 0 (withBit 0 x) ≡ withBit 0 x
 unfolding withBit
 set-twice x = rw (bit-with-same 0 x)
 
-module _ (s : Steering) (v : SteeringIn s) (n x : ℕ) where
+module _ (s : Steering) (v : SteeringRange s) (n x : ℕ) where
   -- in the next cycle it is set where the adjustment that runs then has its last
   pub latched-suc : cond (lastCycle (steeringBy s n .adjustment)) (withBit 0 (latchedBy (s .adjustment) n x))
       (latchedBy (s .adjustment) n x)

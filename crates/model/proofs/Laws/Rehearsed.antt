@@ -12,12 +12,12 @@ use Rattle.model.specs.declared.Engine.{Engine}
 use Rattle.model.specs.Clock.{exact, endOfTime, clockAtExact}
 use Rattle.model.specs.Tick.{endsInTime, tickEngine, noInputs, ticks, inTimeFor}
 use Rattle.model.specs.Elapse.{amountOf, steeringBy}
-use Rattle.model.proofs.Laws.Tests.{both, both-true}
-use Rattle.model.proofs.Laws.Ranges.{Valid, clock-in, steering-in}
+use Rattle.model.proofs.Laws.Testing.{both, both-true}
+use Rattle.model.proofs.Laws.InRange.{Valid, clock-in, steering-in}
 use Rattle.model.proofs.Laws.Ticks.{first-of-ticks}
 use Rattle.model.proofs.Laws.Cycles
 use Rattle.model.proofs.Laws.Phases
-use Rattle.model.proofs.Laws.Elapse.{shownAfter, exact-suc, shown-grows, shown-start}
+use Rattle.model.proofs.Laws.Elapsed.{shownAfter, exact-suc, shown-grows, shown-start}
 
 -- a record whose clock and steering are those of e after n cycles
 pub record At (n : ℕ) (e x : Engine) : Type 0 where

@@ -18,19 +18,19 @@ use Rattle.model.specs.Clock.{shown}
 use Rattle.model.specs.Generator.{placed, isDue}
 use Rattle.model.specs.Tick.{tickStep, tickValues, ticks}
 use Rattle.model.specs.RunLine.{run, ran}
-use Rattle.model.specs.Orders
+use Rattle.model.specs.OtherOps
 use Rattle.model.specs.Preview.{previewed}
 use Rattle.model.specs.Ops.{performed}
 use Rattle.model.specs.Ranges.{valid}
-use Rattle.model.specs.Bounds.{WordsIn}
+use Rattle.model.specs.Bounds.{WordsRange}
 use Rattle.model.specs.Checks.{lastNumber}
 use Rattle.model.specs.Execute.{execute}
-use Rattle.model.proofs.Laws.Tests.{split}
-use Rattle.model.proofs.Laws.Ranges.{Valid, valid-parts, words-in}
-use Rattle.model.proofs.Laws.Words.{time-words-in}
-use Rattle.model.proofs.Laws.Fields.{run-fields}
-use Rattle.model.proofs.Laws.Checks.{Accepted, by-answer, by-op}
-use Rattle.model.proofs.Laws.Interrupts.{interrupts-read, status-read}
+use Rattle.model.proofs.Laws.Testing.{split}
+use Rattle.model.proofs.Laws.InRange.{Valid, valid-parts, words-in}
+use Rattle.model.proofs.Laws.WordFields.{time-words-in}
+use Rattle.model.proofs.Laws.Listed.{listed-in}
+use Rattle.model.proofs.Laws.Accepting.{Accepted, by-answer, by-op}
+use Rattle.model.proofs.Laws.Latching.{interrupts-read, status-read}
 use Rattle.model.proofs.Laws.Eighths.{eighth-below-8}
 use Rattle.model.proofs.Laws.RunTicks.{lastValues, ran-ticks}
 use Rattle.model.proofs.Laws.Valid.{performed-valid}
@@ -47,10 +47,10 @@ placed-low g a s =
     (λ due. code-low (g .direction) _ (eighth-below-8 g a s))
     (λ z. omega arith)
 
-pub no-words-in : WordsIn noWords
+pub no-words-in : WordsRange noWords
 no-words-in = omega arith
 
-tick-values-in : (e : Engine) → WordsIn (tickValues e)
+tick-values-in : (e : Engine) → WordsRange (tickValues e)
 unfolding tickValues
 tick-values-in e =
     let p = placed-low (e .generator1) (shown (e .clock)) (tickStep e) in
@@ -58,40 +58,40 @@ tick-values-in e =
     omega arith
 
 -- the values of a read are the words of the record after it
-commanded-values-in : (e : Engine) (write read : ℕ) → Valid (Orders.commanded e write read .engine)
-    → WordsIn (Orders.commanded e write read .values)
-unfolding Orders.commanded Orders.readEngine
+commanded-values-in : (e : Engine) (write read : ℕ) → Valid (OtherOps.commanded e write read .engine)
+    → WordsRange (OtherOps.commanded e write read .values)
+unfolding OtherOps.commanded OtherOps.readEngine
 commanded-values-in e write read =
-    split (λ (x : Outcome). Valid (x .engine) → WordsIn (x .values)) (eqb read 8)
+    split (λ (x : Outcome). Valid (x .engine) → WordsRange (x .values)) (eqb read 8)
     (λ y v. no-words-in)
     (λ y v. words-in _ (v .words))
 
-interrupt-values-in : (e : Engine) → valid e ≡ true → WordsIn (Orders.interruptsRead e .values)
-unfolding Orders.interruptsRead
+interrupt-values-in : (e : Engine) → valid e ≡ true → WordsRange (OtherOps.interruptsRead e .values)
+unfolding OtherOps.interruptsRead
 interrupt-values-in e h = let low = interrupts-read e h .others in omega arith
 
 -- the values of a run: codes of its last tick, and at most a million ticks in two words
-last-values-in : (e : Engine) (m : ℕ) → WordsIn (lastValues m e)
+last-values-in : (e : Engine) (m : ℕ) → WordsRange (lastValues m e)
 last-values-in e zero = no-words-in
 last-values-in e (suc m) = tick-values-in (ticks m e)
 
-ran-values-in : (e : Engine) (a : ℕ) → a ≤ 1000000 → WordsIn (ran e a .values)
+ran-values-in : (e : Engine) (a : ℕ) → a ≤ 1000000 → WordsRange (ran e a .values)
 unfolding ran
 ran-values-in e a few =
     let r = ran-ticks a e in
-    let w : WordsIn (run a e .values) = rw (r .values) (last-values-in e (run a e .done)) in
+    let w : WordsRange (run a e .values) = rw (r .values) (last-values-in e (run a e .done)) in
     let most = r .few in
     omega arith
 
 -- a preview returns the words of a time
-previewed-values-in : (e : Engine) (a : ℕ) → WordsIn (previewed e a .values)
-unfolding previewed Orders.readWords
+previewed-values-in : (e : Engine) (a : ℕ) → WordsRange (previewed e a .values)
+unfolding previewed OtherOps.readWords
 previewed-values-in e a = time-words-in _ _ 0 (omega arith)
 
-performed-values-in : (e : Engine) (c : Command) → Accepted e c → WordsIn (performed e c .values)
+performed-values-in : (e : Engine) (c : Command) → Accepted e c → WordsRange (performed e c .values)
 performed-values-in e c k =
     let v = valid-parts e (k .valid) in
-    by-op (λ (x : Outcome). Valid (x .engine) → WordsIn (x .values)) e c (k .op)
+    by-op (λ (x : Outcome). Valid (x .engine) → WordsRange (x .values)) e c (k .op)
     (record {
       tick = λ o w. tick-values-in e;
       load = λ o w. no-words-in;
@@ -102,15 +102,15 @@ performed-values-in e c k =
       mask = λ o w. no-words-in;
       status = λ o w. let low = status-read e .above in omega arith;
       show = λ o w. words-in (e .words) (v .words);
-      run = λ o w. ran-values-in e (c .a) (run-fields c (k .fields) o .few);
+      run = λ o w. ran-values-in e (c .a) (listed-in c (k .fields) .run o .1);
       preview = λ o w. previewed-values-in e (c .a);
     })
     (performed-valid e c k)
 
 -- on every record, since one that is not valid is refused
-pub values-in : (e : Engine) (c : Command) → WordsIn (execute e c .values)
+pub values-in : (e : Engine) (c : Command) → WordsRange (execute e c .values)
 values-in e c =
-    by-answer (λ (x : Outcome). WordsIn (x .values)) e c (λ n. no-words-in) (λ k. performed-values-in e c k)
+    by-answer (λ (x : Outcome). WordsRange (x .values)) e c (λ n. no-words-in) (λ k. performed-values-in e c k)
 
 pub answer-small : (e : Engine) (c : Command) → execute e c .answer ≤ lastNumber
 answer-small e c =

@@ -12,9 +12,9 @@ use Rattle.model.specs.declared.Words.{Words}
 use Rattle.model.specs.Words.{five, noWords}
 use Rattle.model.specs.Tick.{endsInTime, tickEngine, tickValues, noInputs, ticks}
 use Rattle.model.specs.RunLine.{Stretch, oneTick, placesEdge, hasEnded, oneMore, run}
-use Rattle.model.proofs.Laws.Tests.{split, neither}
-use Rattle.model.proofs.Laws.Ranges.{Valid}
-use Rattle.model.proofs.Laws.Tick.{tick-valid}
+use Rattle.model.proofs.Laws.Testing.{split, neither}
+use Rattle.model.proofs.Laws.InRange.{Valid}
+use Rattle.model.proofs.Laws.TickRange.{tick-valid}
 
 -- the values of the last of m ticks; before the first there are none
 abbrev pub lastValues : ℕ → Engine → Words

@@ -16,7 +16,7 @@ use Rattle.model.specs.Fields.{fieldTests, fieldsOk}
 use Rattle.model.specs.Checks.{checks, answerOf}
 use Rattle.model.specs.Execute.{execute}
 use Rattle.model.specs.Run.{engineBy, engineFrom}
-use Rattle.model.proofs.Laws.Checks.{execute-answer}
+use Rattle.model.proofs.Laws.Accepting.{execute-answer}
 use Rattle.model.proofs.Laws.Valid.{execute-valid}
 
 -- one op 0 without inputs

@@ -12,7 +12,7 @@ use lib.ListN.{getD}
 use lib.Seq.{append-snoc}
 use borrow.Author.Tests.{lt-ltb, le-leb, ne-eqb, leb-true, ltb-true, eqb-false, not-true}
 use Rattle.model.specs.Text.{isDigit, allDigits, numberAfter, leadsWell, isValue, valueOf, decimal}
-use Rattle.model.proofs.Laws.Tests.{both, both-true}
+use Rattle.model.proofs.Laws.Testing.{both, both-true}
 use Rattle.model.proofs.Laws.Decimal.{decimal-digit, decimal-more}
 
 -- induction on the digits of a number

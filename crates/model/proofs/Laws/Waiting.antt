@@ -14,16 +14,16 @@ use Rattle.model.specs.declared.Outcome.{Outcome}
 use Rattle.model.specs.Clock.{exact, cycleAmount, noAdjustment, lastCycle, oneLess, steeringAfter, adjustedBy}
 use Rattle.model.specs.Interrupts.{hasBit}
 use Rattle.model.specs.Tick.{tickEngine}
-use Rattle.model.specs.Orders.{adjustmentIn, written, readEngine, commanded}
+use Rattle.model.specs.OtherOps.{adjustmentIn, written, readEngine, commanded}
 use Rattle.model.specs.Ranges.{valid}
-use Rattle.model.specs.Bounds.{AdjustmentIn}
+use Rattle.model.specs.Bounds.{AdjustmentRange}
 use Rattle.model.specs.Checks.{isOp, writes, adjusts, checks, answerOf, passes}
 use Rattle.model.specs.Execute.{execute}
-use Rattle.model.proofs.Laws.Tests.{split, both, neither, or-right}
-use Rattle.model.proofs.Laws.Ranges.{SteeringIn, steering-in, adjustment-in, no-adjustment-in, valid-parts}
-use Rattle.model.proofs.Laws.Clock.{exact-ticked}
-use Rattle.model.proofs.Laws.Checks.{performed-row, execute-answer, execute-accepted}
-use Rattle.model.proofs.Laws.Interrupts.{tick-latches}
+use Rattle.model.proofs.Laws.Testing.{split, both, neither, or-right}
+use Rattle.model.proofs.Laws.InRange.{SteeringRange, steering-in, adjustment-in, no-adjustment-in, valid-parts}
+use Rattle.model.proofs.Laws.ExactTime.{exact-ticked}
+use Rattle.model.proofs.Laws.Accepting.{performed-row, execute-answer, execute-accepted}
+use Rattle.model.proofs.Laws.Latching.{tick-latches}
 use Rattle.model.proofs.Laws.Outcomes.{answer-cause, cause-answer}
 
 -- a command that adjusts is an adjust write, or a preview
@@ -58,17 +58,17 @@ unfolding answerOf checks
 four e c h = rw h
 
 module _ (e : Engine) (c : Command) (n : execute e c .answer ≡ 4 → ⊥) where
-  in-range : SteeringIn (e .steering)
+  in-range : SteeringRange (e .steering)
   in-range = by (valid e) refl
     where
-      by : (b : Bool) → valid e ≡ b → SteeringIn (e .steering)
+      by : (b : Bool) → valid e ≡ b → SteeringRange (e .steering)
       by true v = steering-in (e .steering) (valid-parts e v .steering)
       by false v = absurd (n (execute-answer e c ∙ four e c v))
 
   pub unused : e .steering .waiting .cycles ≡ 0 → e .steering .waiting ≡ noAdjustment
   unused z = no-adjustment-in (e .steering .waiting) (in-range .waiting) (eq-eqb _ 0 z)
 
-  pub used : 0 < e .steering .waiting .cycles → AdjustmentIn (e .steering .waiting)
+  pub used : 0 < e .steering .waiting .cycles → AdjustmentRange (e .steering .waiting)
   used l =
       let some = ne-eqb (e .steering .waiting .cycles) 0 (λ z. omega arith) in
       adjustment-in (e .steering .waiting) (in-range .waiting) some

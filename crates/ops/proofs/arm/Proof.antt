@@ -1,4 +1,4 @@
--- The definition's generator.
+-- Nothing has been returned yet, so that the start is pending and every edge is left.
 use borrow.Author.Needs.{needs}
 use Rattle.ops.proofs.arm.Statement.{statement}
 use Rattle.ops.proofs.arm.Tie as tie

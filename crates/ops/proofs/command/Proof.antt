@@ -1,4 +1,4 @@
--- The definition's two cases: a write alone, and a read of what it leaves.
+-- Selector 8 reads nothing, and any other reads what the write leaves.
 use borrow.Author.Needs.{needs}
 use borrow.Author.Tests.{eq-eqb, ne-eqb}
 use Rattle.ops.proofs.Passed.{words-within, readable, written-gives, read-gives}

@@ -1,4 +1,4 @@
--- The definition's words.
+-- The five fields are the words, in their places.
 use borrow.Author.Needs.{needs}
 use Rattle.ops.proofs.load_words.Statement.{statement}
 use Rattle.ops.proofs.load_words.Tie as tie

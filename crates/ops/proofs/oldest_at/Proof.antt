@@ -1,4 +1,4 @@
--- The definition's tests of the number, in its order.
+-- FIFO 1, FIFO 2, and any other number is 3, as numbers below 1 and above 3 are not read.
 use borrow.Author.Needs.{needs}
 use borrow.Author.Tests.{eq-eqb, ne-eqb}
 use Rattle.ops.proofs.oldest_at.Statement.{statement}

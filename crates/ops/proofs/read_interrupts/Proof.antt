@@ -1,6 +1,6 @@
--- The definition's word, and no bit left.
+-- Bit 14 is added to the latched bits where one of them is enabled; then none is latched.
 use borrow.Author.Needs.{needs}
-use Rattle.model.specs.Orders.{interruptsRead}
+use Rattle.model.specs.OtherOps.{interruptsRead}
 use Rattle.ops.proofs.read_interrupts.Statement.{statement}
 use Rattle.ops.proofs.read_interrupts.Tie as tie
 

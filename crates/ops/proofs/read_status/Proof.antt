@@ -1,6 +1,6 @@
--- The definition's word.
+-- A status bit is set where its FIFO is not empty, so the three tests make the word.
 use borrow.Author.Needs.{needs}
-use Rattle.model.specs.Orders.{statusOf}
+use Rattle.model.specs.OtherOps.{statusOf}
 use Rattle.ops.proofs.read_status.Statement.{statement}
 use Rattle.ops.proofs.read_status.Tie as tie
 

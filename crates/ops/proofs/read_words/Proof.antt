@@ -1,7 +1,7 @@
--- The definition's words; the oldest timestamp's EDGE is 0 or 1.
+-- The words of a time hold it, and the oldest timestamp's EDGE is 0 or 1, so that bit 15 has room for it.
 use borrow.Author.Needs.{needs}
 use borrow.Author.Tests.{eq-eqb, ne-eqb}
-use Rattle.model.proofs.Laws.Fifo.{oldest-rising}
+use Rattle.model.proofs.Laws.FifoPlaces.{oldest-rising}
 use Rattle.ops.proofs.read_words.Statement.{statement}
 use Rattle.ops.proofs.read_words.Tie as tie
 

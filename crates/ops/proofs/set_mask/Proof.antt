@@ -1,4 +1,4 @@
--- The definition's masks.
+-- The enabled bits are those of the command, and the latched ones stay.
 use borrow.Author.Needs.{needs}
 use Rattle.ops.proofs.set_mask.Statement.{statement}
 use Rattle.ops.proofs.set_mask.Tie as tie

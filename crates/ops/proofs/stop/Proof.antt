@@ -1,4 +1,4 @@
--- The definition's idle generator.
+-- An idle generator in the place of the number that is given.
 use borrow.Author.Needs.{needs}
 use Rattle.ops.proofs.stop.Statement.{statement}
 use Rattle.ops.proofs.stop.Tie as tie

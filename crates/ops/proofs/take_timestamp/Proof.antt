@@ -1,4 +1,4 @@
--- The definition's tests of the number, in its order; the FIFO holds a timestamp.
+-- The FIFO of this number holds a timestamp, so that one can be taken out; the other two stay.
 use borrow.Author.Tests.{eq-eqb, ne-eqb}
 use Rattle.ops.proofs.Passed.{some}
 use Rattle.ops.proofs.take_timestamp.Statement.{statement}

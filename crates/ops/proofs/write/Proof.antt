@@ -2,7 +2,7 @@
 use native.Mathlib.Omega.{arith}
 use lib.ListN.{List·getD-eq-default}
 use borrow.Author.Needs.{needs}
-use Rattle.model.specs.Orders.{writings, written}
+use Rattle.model.specs.OtherOps.{writings, written}
 use Rattle.model.proofs.Laws.Tables.{past-arms}
 use Rattle.ops.proofs.write.Statement.{statement}
 use Rattle.ops.proofs.write.Tie as tie

@@ -1,4 +1,4 @@
--- The words' adjustment, in the definition's place.
+-- PER_ADJ and COUNT of the words are an adjustment, and where it goes is the clock's matter.
 use borrow.Author.Needs.{needs}
 use Rattle.ops.proofs.write_adjustment.Statement.{statement}
 use Rattle.ops.proofs.write_adjustment.Tie as tie

@@ -1,4 +1,4 @@
--- The definition's steering.
+-- PERIOD is the amount in the words, and the adjustments stay.
 use borrow.Author.Needs.{needs}
 use Rattle.ops.proofs.write_period.Statement.{statement}
 use Rattle.ops.proofs.write_period.Tie as tie

@@ -1,4 +1,4 @@
--- The definition's clock and idle generators.
+-- Seconds and nanoseconds are those in the words, and both generators become idle.
 use borrow.Author.Needs.{needs}
 use Rattle.ops.proofs.write_time.Statement.{statement}
 use Rattle.ops.proofs.write_time.Tie as tie

@@ -1,4 +1,4 @@
--- The definition's tests, one after the other; not 0 is at least 1.
+-- The first test that fails decides; not 0 is at least 1.
 use Prim.Native.Nat.{ℕ}
 use mathlib.Core.Path.{_≡_}
 use mathlib.Core.Bool.{true, false}
@@ -6,7 +6,7 @@ use native.Mathlib.Omega.{arith}
 use lib.Dec.{leb}
 use borrow.Author.Needs.{needs}
 use borrow.Author.Tests.{not-true, not-false, eq-eqb, ne-eqb, le-leb, lt-leb}
-use Rattle.model.proofs.Laws.Ranges.{valid-parts, words-in}
+use Rattle.model.proofs.Laws.InRange.{valid-parts, words-in}
 use Rattle.preview.specs.Previews.{refusalBefore}
 use Rattle.preview.proofs.refusal_before.Statement.{statement}
 use Rattle.preview.proofs.refusal_before.Tie as tie

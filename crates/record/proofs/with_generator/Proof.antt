@@ -1,4 +1,4 @@
--- The definition's test of the number.
+-- Generator 1, and any other number is 2.
 use borrow.Author.Tests.{eq-eqb, ne-eqb}
 use Rattle.record.proofs.with_generator.Statement.{statement}
 use Rattle.record.proofs.with_generator.Tie as tie

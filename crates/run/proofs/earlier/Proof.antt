@@ -1,4 +1,4 @@
--- The definition's cases; of two ticks the smaller number is the earlier.
+-- Of two ticks the smaller number is the earlier; 0 is none, and leaves the other.
 use mathlib.Core.Path.{sym}
 use native.Mathlib.Omega.{arith}
 use Rattle.run.proofs.Found.{none-left, none-right, both-some}

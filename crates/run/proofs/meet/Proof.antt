@@ -1,11 +1,11 @@
--- The tick after the quiet ones is the definition's, worked out from the record that they leave; its events come only
--- with an edge, and its inputs bring none.
+-- The tick after the quiet ones is worked out from the record that they leave; its events come only with an edge, and
+-- its inputs bring none.
 use native.Mathlib.Omega.{arith}
 use native.Mathlib.Numerals.{add-one}
 use borrow.Author.Needs.{needs}
 use Rattle.model.specs.Tick.{tickEngine, tickValues}
 use Rattle.model.specs.Elapse.{elapsed}
-use Rattle.model.proofs.Laws.Ranges.{valid-parts}
+use Rattle.model.proofs.Laws.InRange.{valid-parts}
 use Rattle.generator.specs.Advance.{advanceOf}
 use Rattle.tick.proofs.Causes.{event-placed, sequence-placed}
 use Rattle.tick.proofs.Within.{clock-within, amount-low, cycle, advancing}

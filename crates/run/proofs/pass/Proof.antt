@@ -2,7 +2,7 @@
 use native.Mathlib.Omega.{arith}
 use borrow.Author.Needs.{needs}
 use Rattle.model.specs.Elapse.{elapsed}
-use Rattle.model.proofs.Laws.Ranges.{valid-parts, clock-in}
+use Rattle.model.proofs.Laws.InRange.{valid-parts, clock-in}
 use Rattle.interrupts.specs.Position.{latchOne}
 use Rattle.elapse.proofs.Numbers.{amount-low, from-second}
 use Rattle.run.proofs.pass.Statement.{statement}

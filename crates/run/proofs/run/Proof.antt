@@ -1,7 +1,7 @@
 -- The two checks of a run line in the table's order, as a tick makes them, then the run.
 use mathlib.Core.Path.{sym, _∙_}
 use borrow.Author.Needs.{needs}
-use Rattle.model.proofs.Laws.Ranges.{valid-parts, clock-in}
+use Rattle.model.proofs.Laws.InRange.{valid-parts, clock-in}
 use Rattle.run.proofs.Checked.{fields-refused, late-refused, run-gives, few-ticks}
 use Rattle.run.proofs.run.Statement.{statement}
 use Rattle.run.proofs.run.Tie as tie

@@ -3,7 +3,7 @@ use mathlib.Core.Path.{_≡_, sym, ap, _∙_}
 use mathlib.Core.Logic.{⊎-elim}
 use borrow.Author.Needs.{needs}
 use Rattle.model.specs.Elapse.{amountOf}
-use Rattle.model.proofs.Laws.Ranges.{valid-parts, clock-in}
+use Rattle.model.proofs.Laws.InRange.{valid-parts, clock-in}
 use Rattle.elapse.proofs.Numbers.{amount-low}
 use Rattle.run.specs.Runs.{ranTo}
 use Rattle.run.proofs.Found.{few, first, few-most, few-all, few-is, numbers-are, found-none, first-most}

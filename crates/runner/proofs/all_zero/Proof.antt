@@ -1,4 +1,4 @@
--- The definition's tests, in its order.
+-- A call of `both` is a conjunction, so the calls are the conjunction of the list.
 use mathlib.Core.Bool.{and-true}
 use borrow.Author.Needs.{needs}
 use Rattle.runner.proofs.all_zero.Statement.{statement}

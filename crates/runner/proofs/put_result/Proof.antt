@@ -2,7 +2,7 @@
 -- number by number.
 use mathlib.Core.Path.{sym, _∙_}
 use borrow.Author.Needs.{needs}
-use Rattle.runner.proofs.Zeros.{length-zeros, written-zeros}
+use Rattle.runner.proofs.ZerosWritten.{length-zeros, written-zeros}
 use Rattle.runner.proofs.put_result.Statement.{statement}
 use Rattle.runner.proofs.put_result.Tie as tie
 

@@ -1,36 +1,31 @@
--- The tests are made in the definition's order, and a sheet that begins with the first line has its 19 bytes.
-use mathlib.Core.Path.{sym, _∙_}
+-- Where neither size nor first line refuses the sheet its value lines decide, and then it has the first line's 19 bytes.
 use borrow.Author.Needs.{needs}
-use borrow.Author.Tests.{lt-ltb, le-ltb}
-use Rattle.model.specs.Sheet.{firstLine, sheetVerdict}
-use Rattle.sheet.proofs.FirstLine.{starts-length}
+use borrow.Author.Tests.{eq-eqb, ne-eqb}
+use Rattle.model.specs.Forms.{verdictOf}
+use Rattle.model.specs.Sheet.{firstLine, commandSheet}
+use Rattle.lines.proofs.Starts.{starts-length}
+use Rattle.sheet.proofs.Head.{head-passed}
 use Rattle.sheet.proofs.check_sheet.Statement.{statement}
 use Rattle.sheet.proofs.check_sheet.Tie as tie
 
-returns : tie.Need-returns
-unfolding sheetVerdict
-returns c = simp (c .refused-at .ensures, lt-ltb _ _ (c .before .if1 .taken))
-
 check-body-requires : tie.Need-check-body-requires
 check-body-requires c κs =
-    let starts = sym (c .before .starts-with .ensures) ∙ c .if2 .taken in
-    let long = starts-length firstLine (c .before .before .before .before .before .args .s .now) starts in
-    search needs
+    let head = c .before .before in
+    let s = head .before .before .before .args .s .now in
+    let passed = head-passed firstLine s _ (head .check-head .ensures) (c .if1 .taken) in
+    (starts-length firstLine s (passed .1), passed .0)
+
+returns : tie.Need-returns
+unfolding verdictOf commandSheet
+returns c =
+    let head = c .before .before .before in
+    simp (c .check-body .ensures, ← head .check-head .ensures, eq-eqb _ 0 (c .before .if1 .taken))
 
 returns-2 : tie.Need-returns-2
-unfolding sheetVerdict
+unfolding verdictOf commandSheet
 returns-2 c =
-    let starts = sym (c .before .before .starts-with .ensures) ∙ c .before .if2 .taken in
-    simp (c .check-body .ensures, le-ltb _ _ (c .before .before .before .before .if1 .left), starts)
-
-returns-3 : tie.Need-returns-3
-unfolding sheetVerdict
-returns-3 c =
-    let starts = sym (c .before .before .starts-with .ensures) ∙ c .before .if2 .left in
-    simp (c .refused-at2 .ensures, le-ltb _ _ (c .before .before .before .before .if1 .left), starts)
+    let head = c .before .before in
+    simp (← head .check-head .ensures, ne-eqb _ 0 (c .if1 .left))
 
 pub check-sheet-spec : {M : Type 1} → statement M
-check-sheet-spec =
-    tie.close
-    (tie.spec (search needs) returns (search needs) (search needs) check-body-requires returns-2 (search needs)
-    returns-3)
+check-sheet-spec = tie.close (tie.spec (search needs) (search needs) check-body-requires returns returns-2)

@@ -1,11 +1,12 @@
--- Each turn is one step of the definition, so while the bytes agree those that are left decide.
+-- A text begins with another where its first byte is the other's and the rest begins with the rest: so while the bytes
+-- agree those that are left decide.
 use Prim.Native.Nat.{_≤_, _-_}
 use mathlib.Core.Path.{_≡_, refl, sym}
 use lib.ListN.{length, drop, drop-of-length-le}
 use borrow.Author.Needs.{needs}
 use borrow.Author.Tests.{eq-eqb, ne-eqb}
-use Rattle.model.specs.Sheet.{startsWith}
-use Rattle.sheet.proofs.FirstLine.{starts-turn, starts-short}
+use Rattle.model.specs.Text.{startsWith}
+use Rattle.lines.proofs.Starts.{starts-turn, starts-short}
 use Rattle.sheet.proofs.starts_with.Statement.{statement}
 use Rattle.sheet.proofs.starts_with.Tie as tie
 

@@ -1,4 +1,4 @@
--- Each generator's part is the definition's; its events come only with an edge, so the code is asked for first.
+-- A generator brings events only with an edge, so the edge may be asked for first.
 use borrow.Author.Needs.{needs}
 use Rattle.generator.specs.Advance.{advanceOf}
 use Rattle.tick.specs.Ticks.{outputsOf}

@@ -1,4 +1,4 @@
--- Each input's part is the definition's; its events come only with an edge, so the code is asked for first.
+-- An input brings events only with an edge, so its code may be asked for first.
 use borrow.Author.Needs.{needs}
 use Rattle.fifo.specs.Capture.{arrivalOf}
 use Rattle.tick.specs.Ticks.{inputsOf}

@@ -1,5 +1,5 @@
--- Every part is the definition's, worked out from the record before the tick; the bits are latched one after the other
--- in the order of the definition's table.
+-- Every part is worked out from the record before the tick, and the bits are latched one after the other in the order
+-- of the table of positions.
 use borrow.Author.Needs.{needs}
 use Rattle.model.specs.Tick.{tickEngine, tickValues, tickEvents}
 use Rattle.generator.specs.Advance.{advanceOf}

@@ -1,14 +1,14 @@
--- The change of an order that moves no FIFO, applied.
+-- The change of a command that moves no FIFO, applied.
 use borrow.Author.Needs.{needs}
-use Rattle.tick_bench.proofs.Orders.{still-gave}
+use Rattle.tick_bench.proofs.GivenInPlace.{still-gave}
 use Rattle.tick_bench.proofs.give.Statement.{statement}
 use Rattle.tick_bench.proofs.give.Tie as tie
 
-order-requires : tie.Need-order-requires
-order-requires c κs = (c .pre .on, c .pre .order)
+other-requires : tie.Need-other-requires
+other-requires c κs = (c .pre .on, c .pre .no-tick)
 
 returns : tie.Need-returns
-returns c = rw (c .apply .ensures) (still-gave _ _ _ (c .before .before .pre) (c .before .order .ensures))
+returns c = rw (c .apply .ensures) (still-gave _ _ _ (c .before .before .pre) (c .before .other .ensures))
 
 pub give-spec : {M : Type 1} → statement M
-give-spec = tie.close (tie.spec order-requires (search needs) returns)
+give-spec = tie.close (tie.spec other-requires (search needs) returns)

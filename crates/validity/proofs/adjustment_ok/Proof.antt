@@ -1,4 +1,4 @@
--- No cycles left is the definition's idle case, any other number its running case.
+-- Without cycles left it has to be zero, and with some in range.
 use borrow.Author.Tests.{eq-eqb, ne-eqb}
 use borrow.Author.Needs.{needs}
 use Rattle.model.specs.Ranges.{adjustmentOk}

@@ -1,10 +1,11 @@
--- No edges left is the definition's idle case. Else the tests passed are what the comparison asks for.
+-- Without edges left it has to be zero. Else the tests that have passed are what the comparison of its instant asks
+-- for.
 use mathlib.Core.Path.{sym, _∙_}
 use native.Mathlib.Omega.{arith}
 use borrow.Author.Tests.{eq-eqb, ne-eqb, ltb-true}
 use borrow.Author.Needs.{needs}
 use Rattle.model.specs.Ranges.{runningTests, generatorOk}
-use Rattle.model.proofs.Laws.Tests.{facts}
+use Rattle.model.proofs.Laws.Testing.{facts}
 use Rattle.validity.proofs.generator_ok.Statement.{statement}
 use Rattle.validity.proofs.generator_ok.Tie as tie
 

@@ -1,4 +1,4 @@
--- The two words are tested against the definition's masks.
+-- A word has only bits of its mask, each of the two of its own.
 use borrow.Author.Needs.{needs}
 use Rattle.model.specs.Ranges.{interruptsOk}
 use Rattle.validity.proofs.interrupts_ok.Statement.{statement}

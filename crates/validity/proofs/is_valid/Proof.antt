@@ -1,10 +1,10 @@
--- The clock's test is the definition's first: where it fails the record is not valid. Else the others decide; they are
--- the definition's, in its order and in groups.
+-- A conjunction may be asked in groups: where the clock is out of range the record is not valid, else the others
+-- decide.
 use mathlib.Core.Path.{sym, _∙_}
 use borrow.Author.Tests.{not-true, not-false}
 use borrow.Author.Needs.{needs}
 use Rattle.model.specs.Ranges.{valid}
-use Rattle.model.proofs.Laws.Ranges.{clock-in}
+use Rattle.model.proofs.Laws.InRange.{clock-in}
 use Rattle.validity.proofs.Groups.{valid-by-groups}
 use Rattle.validity.proofs.is_valid.Statement.{statement}
 use Rattle.validity.proofs.is_valid.Tie as tie

@@ -4,18 +4,18 @@ use mathlib.Core.Bool.{true, false}
 use borrow.Author.Needs.{needs}
 use Rattle.model.specs.Tests.{everyBelow}
 use Rattle.model.specs.Ranges.{placeOk}
-use Rattle.validity.specs.Fifos.{ofThree, inOrder}
+use Rattle.validity.specs.Fifos.{ofThree, inRange}
 use Rattle.validity.proofs.places_ok.Statement.{statement}
 use Rattle.validity.proofs.places_ok.Tie as tie
 
-none-seen : inOrder (record { seconds = 0; rising = 0; rest = 0; late = false }) ≡ true
-unfolding inOrder
+none-seen : inRange (record { seconds = 0; rising = 0; rest = 0; late = false }) ≡ true
+unfolding inRange
 none-seen = refl
 
 all-seen : (c : tie.After-see-place8)
     → let to7 = c .before .before .before .before .before .before .before in
     let fifos = to7 .before .args in
-    inOrder (c .see-place8 .result)
+    inRange (c .see-place8 .result)
     ≡ everyBelow 8 (λ i. ofThree (λ f. placeOk f i) (fifos .fifo1) (fifos .fifo2) (fifos .fifo3))
 all-seen c =
     let to4 = c .before .before .before .before in
@@ -32,7 +32,7 @@ all-seen c =
     )
 
 returns : tie.Need-returns
-unfolding inOrder
+unfolding inRange
 returns c =
     let seen = c .before .before in
     simp (c .both3 .ensures, c .before .fails .ensures, seen .both2 .ensures, seen .before .both .ensures)

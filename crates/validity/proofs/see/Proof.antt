@@ -10,9 +10,10 @@ use lib.Dec.{eqb, ltb, leb}
 use borrow.Author.Tests.{lt-ltb, le-ltb, le-leb, lt-leb}
 use borrow.Author.Needs.{needs}
 use Rattle.model.specs.declared.Timestamp.{Timestamp}
+use Rattle.model.specs.Units.{nsPerSecond}
 use Rattle.model.specs.Ranges.{timestampOk}
 use Rattle.validity.specs.declared.Seen.{Seen}
-use Rattle.validity.specs.Fifos.{inOrder}
+use Rattle.validity.specs.Fifos.{inRange}
 use Rattle.validity.proofs.Groups.{and-left-comm}
 use Rattle.validity.proofs.Merged.{or-below, or-zero, or-flag}
 use Rattle.validity.proofs.see.Statement.{statement}
@@ -34,21 +35,21 @@ apart : (late rest seconds rising s n r : Bool)
 apart late rest seconds rising s n r = simp (and-assoc, and-left-comm)
 
 one-used : (s : Seen) (t : Timestamp)
-    → inOrder
+    → inRange
     (record {
       seconds = bitOr (s .seconds) (t .seconds);
       rising = bitOr (s .rising) (t .rising);
       rest = s .rest;
-      late = s .late || leb 1000000000 (t .nanoseconds);
+      late = s .late || leb nsPerSecond (t .nanoseconds);
     })
-    ≡ (inOrder s && timestampOk t)
-unfolding inOrder timestampOk
+    ≡ (inRange s && timestampOk t)
+unfolding inRange timestampOk
 one-used s t = simp (not-late, or-below 48, or-flag, and-true, apart)
 
 one-other : (s : Seen) (bits : ℕ)
-    → inOrder (record { seconds = s .seconds; rising = s .rising; rest = bitOr (s .rest) bits; late = s .late })
-    ≡ (inOrder s && eqb bits 0)
-unfolding inOrder
+    → inRange (record { seconds = s .seconds; rising = s .rising; rest = bitOr (s .rest) bits; late = s .late })
+    ≡ (inRange s && eqb bits 0)
+unfolding inRange
 one-other s bits = simp (or-zero, and-assoc, and-comm, and-left-comm)
 
 returns : tie.Need-returns

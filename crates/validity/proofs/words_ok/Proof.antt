@@ -1,4 +1,4 @@
--- The tests are those of the definition, in its order.
+-- A call of `both` is a conjunction, so the calls are the conjunction of the list.
 use mathlib.Core.Bool.{and-true}
 use borrow.Author.Needs.{needs}
 use Rattle.model.specs.Ranges.{wordsOk}

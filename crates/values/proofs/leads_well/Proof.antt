@@ -1,7 +1,7 @@
 -- The code branches as the definition does: on a length of 0, of 1 and of more.
 use borrow.Author.Needs.{needs}
 use borrow.Author.Tests.{eq-eqb, ne-eqb}
-use Rattle.values.proofs.Digits.{leads-by-length}
+use Rattle.values.proofs.DigitByDigit.{leads-by-length}
 use Rattle.values.proofs.leads_well.Statement.{statement}
 use Rattle.values.proofs.leads_well.Tie as tie
 

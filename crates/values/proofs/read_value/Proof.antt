@@ -1,12 +1,12 @@
--- A text of one byte is its digit after 0. Else each turn is one step of the definition, so while the bytes make a
--- number that fits those that are left decide.
+-- A text of one byte is its digit after 0. Else a digit more is ten times the number and the digit: so while the bytes
+-- make a number that fits those that are left decide.
 use Prim.Native.Nat.{_-_, _^_, _≤_, _<_}
 use mathlib.Core.Path.{_≡_, _∙_}
 use lib.ListN.{length, drop, drop-of-length-le}
 use borrow.Author.Needs.{needs}
 use borrow.Author.Tests.{lt-ltb, not-true, not-false}
 use Rattle.model.specs.Text.{isValue, valueOf}
-use Rattle.values.proofs.Digits.{readAfter, read-turn, value-one}
+use Rattle.values.proofs.DigitByDigit.{readAfter, read-turn, value-one}
 use Rattle.values.proofs.read_value.Statement.{statement}
 use Rattle.values.proofs.read_value.Tie as tie
 

@@ -1,7 +1,7 @@
 -- One digit or two before a comma are the value there; otherwise the run up to the comma is read as a value, and where
 -- no comma follows there is none.
 use borrow.Author.Needs.{needs}
-use Rattle.values.proofs.Taking.{taken-digit, taken-two, taken-cut, taken-run}
+use Rattle.values.proofs.TakenParts.{taken-digit, taken-two, taken-cut, taken-run}
 use Rattle.values.proofs.take_value.Statement.{statement}
 use Rattle.values.proofs.take_value.Tie as tie
 

@@ -1,4 +1,4 @@
--- PER_ADJ and COUNT, each the definition's.
+-- PER_ADJ and COUNT are cut out of the same words.
 use borrow.Author.Needs.{needs}
 use Rattle.words.proofs.adjustment_in.Statement.{statement}
 use Rattle.words.proofs.adjustment_in.Tie as tie
