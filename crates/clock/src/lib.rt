@@ -5,6 +5,7 @@ ghost use mathlib.Core.Path.{_≡_};
 ghost use mathlib.Core.Bool.{true};
 ghost use Prim.Native.Nat.{_+_, _*_, _<_, _≤_, _^_};
 ghost use lib.Dec.{leb, ltb};
+ghost use Rattle.model.specs.Units.{nsPerSecond};
 ghost use Rattle.model.specs.Clock.{shown, endOfTime, cycleAmount, stepBy, ticked, clockSet};
 ghost use Rattle.model.specs.Clock.{noAdjustment, adjustedBy, steeringAfter};
 ghost use Rattle.model.specs.Ranges.{steeringOk};
@@ -157,7 +158,7 @@ pub fn has_time_left(k: Clock, s: Steering) -> bool
 // seconds in the nanoseconds are carried, so that it is right for every two numbers.
 pub fn is_not_past(k: Clock, seconds: u64, nanoseconds: u64) -> bool
     requires { ⌜ ClockRange k ⌝ }
-    ensures { λ r. ⌜ r ≡ leb (shown k) ((seconds * 1000000000 + nanoseconds) * 256) ⌝ }
+    ensures { λ r. ⌜ r ≡ leb (shown k) ((seconds * nsPerSecond + nanoseconds) * 256) ⌝ }
 {
     if k.seconds < seconds {
         return true;

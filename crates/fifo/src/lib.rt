@@ -4,6 +4,7 @@
 ghost use mathlib.Core.Path.{_≡_};
 ghost use Prim.Native.Nat.{_+_, _*_, _<_, _≤_, min};
 ghost use lib.Dec.{eqb};
+ghost use Rattle.model.specs.Units.{nsPerSecond};
 ghost use Rattle.model.specs.Clock.{shown};
 ghost use Rattle.model.specs.Edges.{codeRising};
 ghost use Rattle.model.specs.Fifo.{emptyFifo, noTimestamp, entry, lastNanosecond, timestampAt, timestampOf};
@@ -97,7 +98,7 @@ fn nearest(k: Clock, step: u64, code: u64) -> u64
 // there can only be one nanosecond too many, which is taken off.
 fn carried(seconds: u64, nanoseconds: u64, rising: u64) -> Timestamp
     requires { ⌜ Carrying seconds nanoseconds ⌝ }
-    ensures { λ r. ⌜ r ≡ timestampAt (min lastNanosecond (seconds * 1000000000 + nanoseconds)) rising ⌝ }
+    ensures { λ r. ⌜ r ≡ timestampAt (min lastNanosecond (seconds * nsPerSecond + nanoseconds)) rising ⌝ }
 {
     let last = LAST_SECOND <= seconds;
     let carry = nanoseconds / NS_PER_SECOND;

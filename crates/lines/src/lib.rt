@@ -14,7 +14,7 @@ use values::eight_at;
 use values::pair_at;
 use values::read_value;
 use values::run_length;
-use values::take_value;
+use values::take_values;
 use values::wide;
 
 // "0,0,0,0," as a number, the first byte lowest.
@@ -97,18 +97,11 @@ fn read_line(s: &[u8]) -> Line
     ensures { λ r. ⌜ r ≡ lineOf (now (s .entry)) ⌝ }
 {
     let mut numbers = [0u64; 9];
-    let mut at = 0;
-    let mut k = 0;
-    while k < 8 {
-        let next = take_value(s, at);
-        let value = next.value;
-        if !value.ok {
-            return no_line();
-        }
-        numbers[k] = value.number;
-        at = next.end + 1;
-        k += 1;
+    let front = take_values(s, &mut numbers[..8]);
+    if !front.ok {
+        return no_line();
     }
+    let at = front.end;
     let last = read_value(&s[at..]);
     if !last.ok {
         return no_line();

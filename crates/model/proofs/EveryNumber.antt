@@ -1,5 +1,5 @@
 -- Every number has its one sentence: where no check above it fails, it comes exactly when its sentence of document 01's
--- table, or of a request of document 02, holds. Number 4 is told by records at its limits (Examples/Records.antt).
+-- table, or of a request of document 02, holds. Number 4 is told by records at its limits (Examples/RecordLimits.antt).
 use Rattle.model.specs.declared.Engine.{Engine}
 use Rattle.model.specs.declared.Command.{Command}
 use Rattle.model.specs.Sentences.{Sentences}

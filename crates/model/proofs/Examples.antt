@@ -94,7 +94,8 @@ unfolding examples starred cells runLines adjustments previews timestamps record
     Tick.tickEvents Tick.tickEngine Tick.tickValues Tick.ticks Tick.inTimeFor RunLine.hasEnded RunLine.oneMore
     RunLine.run RunLine.ran OtherOps.written OtherOps.readWords OtherOps.readEngine OtherOps.commanded
     OtherOps.interruptsRead OtherOps.statusOf Preview.previewed Ops.performed Execute.execute Text.isValue
-    Forms.readsLine Forms.rowIn Forms.headVerdict Forms.verdictOf Sheet.commandSheet Sheet.commandsIn Text.decimal Results.results
+    Forms.readsLine Forms.rowIn Forms.headVerdict Forms.verdictOf Sheet.commandSheet Sheet.commandsIn
+    Text.decimal Results.results
 examples-tested = refl
 
 -- every example is as stated

@@ -6,7 +6,7 @@ use Prim.Native.Nat.{ℕ, _*_, _^_}
 abbrev pub nsPerSecond : ℕ
 nsPerSecond = 1000000000
 
--- 1/256 ns in 2^-32 ns, and an eighth of 2^-32 ns in a nanosecond: 16,777,216 and 34,359,738,368
+-- 2^-32 ns in 1/256 ns, and eighths of 2^-32 ns in a nanosecond: 16,777,216 and 34,359,738,368
 abbrev pub stepUnit : ℕ
 stepUnit = 2 ^ 24
 

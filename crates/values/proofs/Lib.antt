@@ -3,3 +3,5 @@ pub mod DigitByDigit
 pub mod Values
 pub mod Parts
 pub mod TakenParts
+pub mod FilledPlaces
+pub mod Behind

@@ -1,4 +1,5 @@
--- Bytes as a number, one digit more, and the value at an index.
+-- Bytes as a number, one digit more, the value at an index, and the values at the front of a line.
 pub mod Bytes
 pub mod Digits
 pub mod Taking
+pub mod Fronts

@@ -1,6 +1,6 @@
 // One value of a command sheet: decimal digits without leading zeros, below 2^64, by itself or at an index of a line,
-// up to its comma; and some bytes as a number. Each function returns a definition of the model's specs/Text.antt or of
-// specs/. Document 01, "Command sheet".
+// up to its comma; the values at the front of a line; and some bytes as a number. Each function returns a definition of
+// the model's specs/Text.antt or of specs/. Document 01, "Command sheet".
 ghost use mathlib.Core.Path.{_≡_};
 ghost use Prim.Native.Nat.{_+_, _^_, _<_, _≤_};
 ghost use lib.ListN.{length};
@@ -8,6 +8,7 @@ ghost use Rattle.model.specs.Text.{noValue, leadsWell, valueOf};
 ghost use Rattle.values.specs.Bytes.{pairAt, fourAt, eightAt};
 ghost use Rattle.values.specs.Digits.{digitAfter};
 ghost use Rattle.values.specs.Taking.{RunTo, DigitAt, TwoAt, TakenAt};
+ghost use Rattle.values.specs.Fronts.{FrontOf};
 use bits::join;
 use model::Value;
 
@@ -190,6 +191,33 @@ pub fn take_value(s: &[u8], at: usize) -> Taken
     }
     let value = read_value(&s[at..end]);
     value_to(value.ok, value.number, end)
+}
+
+// The values at the front of a line: whether there is one for each place, and where the rest of the line begins, or
+// what is no value.
+pub struct Front {
+    pub ok: bool,
+    pub end: usize,
+}
+
+// As many values as there are places lent for their numbers, each up to its comma. What has to stand behind them is
+// another matter: a sheet's last value has no comma, and may be of another form.
+pub fn take_values(s: &[u8], numbers: &mut [u64]) -> Front
+    ensures { λ r. ⌜ FrontOf (now (s .entry)) (now (numbers .entry)) (now (numbers .exit)) r ⌝ }
+{
+    let mut at = 0;
+    let mut k = 0;
+    while k < numbers.len() {
+        let next = take_value(s, at);
+        let value = next.value;
+        if !value.ok {
+            return Front { ok: false, end: at };
+        }
+        numbers[k] = value.number;
+        at = next.end + 1;
+        k += 1;
+    }
+    Front { ok: true, end: at }
 }
 
 // The bytes from an index on as a number, the first lowest: two, four or eight of them, which are read and compared at

@@ -11,7 +11,7 @@ use lib.Dec.{leb, ltb}
 use lib.ListN.{getD}
 use lib.Seq.{append-snoc}
 use borrow.Author.Tests.{lt-ltb, le-leb, ne-eqb, leb-true, ltb-true, eqb-false, not-true}
-use Rattle.model.specs.Text.{isDigit, allDigits, numberAfter, leadsWell, isValue, valueOf, decimal}
+use Rattle.model.specs.Text.{isDigit, allDigits, numberAfter, leadsWell, isValue, decimal}
 use Rattle.model.proofs.Laws.Testing.{both, both-true}
 use Rattle.model.proofs.Laws.Decimal.{decimal-digit, decimal-more}
 
@@ -83,11 +83,6 @@ decimal-leads n l =
 pub decimal-is-value : (n : ℕ) → n < 2 ^ 64 → isValue (decimal n) ≡ true
 unfolding isValue
 decimal-is-value n l = rw (decimal-leads n l, decimal-all-digits n l, number-of-decimal n l, lt-ltb n (2 ^ 64) l)
-
--- a number in decimal reads as this number
-pub value-of-decimal : (n : ℕ) → n < 2 ^ 64 → valueOf (decimal n) ≡ record { ok = true; number = n }
-unfolding valueOf
-value-of-decimal n l = rw (decimal-is-value n l, number-of-decimal n l)
 
 -- a value, as facts
 pub value-in : (bs : List ℕ) → isValue bs ≡ true

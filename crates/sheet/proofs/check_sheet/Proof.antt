@@ -1,4 +1,4 @@
--- Where neither size nor first line refuses the sheet its value lines decide, and then it has the first line's 19 bytes.
+-- Where neither size nor first line refuses the sheet its value lines decide; it has the first line's 19 bytes then.
 use borrow.Author.Needs.{needs}
 use borrow.Author.Tests.{eq-eqb, ne-eqb}
 use Rattle.model.specs.Forms.{verdictOf}
