@@ -129,6 +129,7 @@ fn sheets() {
     run(b"sheet_largest_value.csv");
     run(b"size_65536_bytes.csv");
     run(b"size_65537_bytes.csv");
+    run(b"size_65537_bytes_of_no_sheet.csv");
 }
 
 // A waiting adjustment.

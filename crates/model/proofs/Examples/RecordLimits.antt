@@ -39,7 +39,7 @@ abbrev steering : ℕ → Adjustment → Adjustment → Engine
 steering period running waiting =
     withSteering powerOn (record { period = period; adjustment = running; waiting = waiting })
 
--- PERIOD at 8 ns, an adjustment of one cycle that runs
+-- PERIOD at 8 ns, and an adjustment that runs, or waits behind one of one cycle
 abbrev running : Adjustment → Engine
 running j = steering (8 * 2 ^ 32) j noAdjustment
 
@@ -62,6 +62,12 @@ fifoWith count place t = record {
 abbrev fifo1 : Fifo → Engine
 fifo1 f = withFifos powerOn f emptyFifo emptyFifo
 
+abbrev fifo2 : Fifo → Engine
+fifo2 f = withFifos powerOn emptyFifo f emptyFifo
+
+abbrev fifo3 : Fifo → Engine
+fifo3 f = withFifos powerOn emptyFifo emptyFifo f
+
 -- a generator with all that number 4 looks at
 abbrev generator : ℕ → ℕ → ℕ → ℕ → ℕ → ℕ → ℕ → ℕ → ℕ → Generator
 generator seconds nanoseconds remainder whole numerator denominator left direction mark = record {
@@ -80,21 +86,77 @@ generator1 g = withGenerators powerOn g idleGenerator
 abbrev generator2 : Generator → Engine
 generator2 g = withGenerators powerOn idleGenerator g
 
--- at 0 s 0 ns and 1/256 ns, with a generator 1 whose instant is r/d ns
-abbrev aheadBy : ℕ → ℕ → Engine
-aheadBy r d =
-    withClock (generator1 (generator 0 0 r 256 0 d 1 0 0))
-    (record { seconds = 0; nanoseconds = 0; fraction = 1; remainder = 0 })
-
 abbrev interrupts : ℕ → ℕ → Engine
 interrupts latched enabled = withInterrupts powerOn (record { latched = latched; enabled = enabled })
 
 abbrev words : ℕ → ℕ → ℕ → ℕ → ℕ → Engine
 words w1 w2 w3 w4 w5 = withWords powerOn (five w1 w2 w3 w4 w5)
 
-unfoldable pub recordLimits : List Example
-recordLimits =
-    -- the clock
+-- an adjustment, where one may stand: PER_ADJ as PERIOD, at most 2^24 - 1 cycles; zero where there is none
+abbrev adjustmentLimits : (Adjustment → Engine) → List Example
+adjustmentLimits at =
+    onEach (
+    at (adjustment (2 ^ 32) 1) ∷ at (adjustment (2 ^ 40 - 1) (2 ^ 24 - 1)) ∷ at noAdjustment
+    ∷ at (adjustment (2 ^ 32 - 1) 1) ∷ at (adjustment (2 ^ 40) 1) ∷ at (adjustment (2 ^ 32) (2 ^ 24))
+    ∷ at (adjustment 1 0)
+    ∷ []
+    ) (0 ∷ 0 ∷ 0 ∷ 4 ∷ 4 ∷ 4 ∷ 4 ∷ [])
+    ∷ []
+
+-- a timestamp in each place of a FIFO with so many entries
+abbrev inEachPlace : (Fifo → Engine) → ℕ → Timestamp → Example
+inEachPlace at count t =
+    onEach (map (λ place. at (fifoWith count place t)) (0 ∷ 1 ∷ 2 ∷ 3 ∷ 4 ∷ 5 ∷ 6 ∷ 7 ∷ [])) (replicate 8 4)
+
+-- a FIFO: the count; a timestamp in each place that is used, and zero in each that is not
+abbrev fifoLimits : (Fifo → Engine) → List Example
+fifoLimits at =
+    onEach (
+    at (fifoWith 8 0 noTimestamp) ∷ at (fifoWith 7 7 noTimestamp) ∷ at (fifoWith 7 7 (stamp 0 0 1))
+    ∷ at (record { entries = fifoWith 8 0 noTimestamp .entries; count = 9 })
+    ∷ []
+    ) (0 ∷ 0 ∷ 4 ∷ 4 ∷ [])
+    ∷ inEachPlace at 8 (stamp (2 ^ 48) 0 0) ∷ inEachPlace at 8 (stamp 0 nsPerSecond 0)
+    ∷ inEachPlace at 8 (stamp 0 0 2)
+    ∷ inEachPlace at 0 (stamp 1 0 0) ∷ inEachPlace at 0 (stamp 0 1 0) ∷ inEachPlace at 0 (stamp 0 0 1)
+    ∷ []
+
+-- a generator whose instant is r/d ns, where the time shown is 1/256 ns
+abbrev ahead : (Generator → Engine) → ℕ → ℕ → Engine
+ahead at r d =
+    withClock (at (generator 0 0 r 256 0 d 1 0 0))
+    (record { seconds = 0; nanoseconds = 0; fraction = 1; remainder = 0 })
+
+-- a generator that runs: op 3's limits, lowest and highest; beyond them, field by field; its pending instant is not
+-- before the time shown, 1/256 ns: 1/256 ns, 1/255, 1/257, 0; and one that is idle is zero
+abbrev generatorLimits : (Generator → Engine) → List Example
+generatorLimits at =
+    onEach (
+    at (generator 0 0 0 256 0 1 1 0 0)
+    ∷ at (generator (2 ^ 48 - 1) 999999999 (2 ^ 32 - 2) 999999999 (2 ^ 32 - 2) (2 ^ 32 - 1) (2 ^ 32 - 1) 1 1)
+    ∷ []
+    ) (0 ∷ 0 ∷ [])
+    ∷ onEach (
+    at (generator (2 ^ 48) 0 0 256 0 1 1 0 0) ∷ at (generator 0 nsPerSecond 0 256 0 1 1 0 0)
+    ∷ at (generator 0 0 1 256 0 1 1 0 0) ∷ at (generator 0 0 0 255 0 1 1 0 0)
+    ∷ at (generator 0 0 0 nsPerSecond 0 1 1 0 0) ∷ at (generator 0 0 0 256 1 1 1 0 0)
+    ∷ at (generator 0 0 0 256 0 0 1 0 0) ∷ at (generator 0 0 0 256 0 (2 ^ 32) 1 0 0)
+    ∷ at (generator 0 0 0 256 0 1 (2 ^ 32) 0 0) ∷ at (generator 0 0 0 256 0 1 1 2 0)
+    ∷ at (generator 0 0 0 256 0 1 1 0 2)
+    ∷ []
+    ) (replicate 11 4)
+    ∷ onEach (ahead at 1 256 ∷ ahead at 1 255 ∷ ahead at 1 257 ∷ ahead at 0 1 ∷ []) (0 ∷ 0 ∷ 4 ∷ 4 ∷ [])
+    ∷ onEach (
+    at (generator 1 0 0 0 0 0 0 0 0) ∷ at (generator 0 1 0 0 0 0 0 0 0) ∷ at (generator 0 0 1 0 0 0 0 0 0)
+    ∷ at (generator 0 0 0 1 0 0 0 0 0) ∷ at (generator 0 0 0 0 1 0 0 0 0) ∷ at (generator 0 0 0 0 0 1 0 0 0)
+    ∷ at (generator 0 0 0 0 0 0 0 1 0) ∷ at (generator 0 0 0 0 0 0 0 0 1)
+    ∷ []
+    ) (replicate 8 4)
+    ∷ []
+
+-- clock, PERIOD, the order of the two adjustments, interrupt bits and words
+abbrev partLimits : List Example
+partLimits =
     onEach (
     clock (2 ^ 48 - 1) 999999999 255 (2 ^ 24 - 1)
     ∷ clock (2 ^ 48) 0 0 0 ∷ clock 0 nsPerSecond 0 0 ∷ clock 0 0 256 0 ∷ clock 0 0 0 (2 ^ 24)
@@ -106,71 +168,8 @@ recordLimits =
     ∷ steering (2 ^ 32 - 1) noAdjustment noAdjustment ∷ steering (2 ^ 40) noAdjustment noAdjustment
     ∷ []
     ) (0 ∷ 0 ∷ 4 ∷ 4 ∷ [])
-    -- the adjustment that runs: PER_ADJ as PERIOD, at most 2^24 - 1 cycles; zero where none runs
-    ∷ onEach (
-    running (adjustment (2 ^ 32) 1) ∷ running (adjustment (2 ^ 40 - 1) (2 ^ 24 - 1))
-    ∷ running (adjustment (2 ^ 32 - 1) 1) ∷ running (adjustment (2 ^ 40) 1)
-    ∷ running (adjustment (2 ^ 32) (2 ^ 24)) ∷ running (adjustment 1 0)
-    ∷ []
-    ) (0 ∷ 0 ∷ 4 ∷ 4 ∷ 4 ∷ 4 ∷ [])
-    -- the one that waits, alike; and behind one that runs
-    ∷ onEach (
-    waiting (adjustment (2 ^ 32) 1) ∷ waiting (adjustment (2 ^ 40 - 1) (2 ^ 24 - 1))
-    ∷ waiting (adjustment (2 ^ 32 - 1) 1) ∷ waiting (adjustment (2 ^ 40) 1)
-    ∷ waiting (adjustment (2 ^ 32) (2 ^ 24)) ∷ waiting (adjustment 1 0)
-    ∷ steering (8 * 2 ^ 32) noAdjustment (adjustment (2 ^ 32) 1)
-    ∷ []
-    ) (0 ∷ 0 ∷ 4 ∷ 4 ∷ 4 ∷ 4 ∷ 4 ∷ [])
-    -- a FIFO: the count, the timestamp in a place that is used, first and last
-    ∷ onEach (
-    fifo1 (fifoWith 8 0 noTimestamp)
-    ∷ fifo1 (record { entries = fifoWith 8 0 noTimestamp .entries; count = 9 })
-    ∷ fifo1 (fifoWith 8 0 (stamp (2 ^ 48) 0 0)) ∷ fifo1 (fifoWith 8 0 (stamp 0 nsPerSecond 0))
-    ∷ fifo1 (fifoWith 8 0 (stamp 0 0 2)) ∷ fifo1 (fifoWith 8 7 (stamp (2 ^ 48) 0 0))
-    ∷ []
-    ) (0 ∷ 4 ∷ 4 ∷ 4 ∷ 4 ∷ 4 ∷ [])
-    -- zero in a place that is not, first and last
-    ∷ onEach (
-    fifo1 (fifoWith 7 7 noTimestamp)
-    ∷ fifo1 (fifoWith 0 0 (stamp 1 0 0)) ∷ fifo1 (fifoWith 0 0 (stamp 0 1 0)) ∷ fifo1 (fifoWith 0 0 (stamp 0 0 1))
-    ∷ fifo1 (fifoWith 7 7 (stamp 0 0 1)) ∷ fifo1 (fifoWith 0 7 (stamp 0 0 1))
-    ∷ []
-    ) (0 ∷ 4 ∷ 4 ∷ 4 ∷ 4 ∷ 4 ∷ [])
-    -- the same of FIFOs 2 and 3
-    ∷ onEach (
-    withFifos powerOn emptyFifo (fifoWith 8 7 noTimestamp) (fifoWith 8 7 noTimestamp)
-    ∷ withFifos powerOn emptyFifo (fifoWith 0 0 (stamp 0 0 1)) emptyFifo
-    ∷ withFifos powerOn emptyFifo emptyFifo (fifoWith 0 0 (stamp 0 0 1))
-    ∷ []
-    ) (0 ∷ 4 ∷ 4 ∷ [])
-    -- a generator that runs: op 3's limits, lowest and highest
-    ∷ onEach (
-    generator1 (generator 0 0 0 256 0 1 1 0 0)
-    ∷ generator1 (generator (2 ^ 48 - 1) 999999999 (2 ^ 32 - 2) 999999999 (2 ^ 32 - 2) (2 ^ 32 - 1) (2 ^ 32 - 1) 1 1)
-    ∷ generator2 (generator (2 ^ 48 - 1) 999999999 (2 ^ 32 - 2) 999999999 (2 ^ 32 - 2) (2 ^ 32 - 1) (2 ^ 32 - 1) 1 1)
-    ∷ []
-    ) (0 ∷ 0 ∷ 0 ∷ [])
-    -- and beyond them, in the order of its fields
-    ∷ onEach (
-    generator1 (generator (2 ^ 48) 0 0 256 0 1 1 0 0) ∷ generator1 (generator 0 nsPerSecond 0 256 0 1 1 0 0)
-    ∷ generator1 (generator 0 0 1 256 0 1 1 0 0) ∷ generator1 (generator 0 0 0 255 0 1 1 0 0)
-    ∷ generator1 (generator 0 0 0 nsPerSecond 0 1 1 0 0) ∷ generator1 (generator 0 0 0 256 1 1 1 0 0)
-    ∷ generator1 (generator 0 0 0 256 0 0 1 0 0) ∷ generator1 (generator 0 0 0 256 0 (2 ^ 32) 1 0 0)
-    ∷ generator1 (generator 0 0 0 256 0 1 (2 ^ 32) 0 0) ∷ generator1 (generator 0 0 0 256 0 1 1 2 0)
-    ∷ generator1 (generator 0 0 0 256 0 1 1 0 2) ∷ generator2 (generator 0 0 0 256 0 1 1 0 2)
-    ∷ []
-    ) (4 ∷ 4 ∷ 4 ∷ 4 ∷ 4 ∷ 4 ∷ 4 ∷ 4 ∷ 4 ∷ 4 ∷ 4 ∷ 4 ∷ [])
-    -- its pending instant is not before the time shown, 1/256 ns: 1/256 ns, 1/255, 1/257, 0
-    ∷ onEach (aheadBy 1 256 ∷ aheadBy 1 255 ∷ aheadBy 1 257 ∷ aheadBy 0 1 ∷ []) (0 ∷ 0 ∷ 4 ∷ 4 ∷ [])
-    -- an idle generator is zero
-    ∷ onEach (
-    generator1 (generator 1 0 0 0 0 0 0 0 0) ∷ generator1 (generator 0 1 0 0 0 0 0 0 0)
-    ∷ generator1 (generator 0 0 1 0 0 0 0 0 0) ∷ generator1 (generator 0 0 0 1 0 0 0 0 0)
-    ∷ generator1 (generator 0 0 0 0 1 0 0 0 0) ∷ generator1 (generator 0 0 0 0 0 1 0 0 0)
-    ∷ generator1 (generator 0 0 0 0 0 0 0 1 0) ∷ generator1 (generator 0 0 0 0 0 0 0 0 1)
-    ∷ generator2 (generator 0 0 0 0 0 0 0 0 1)
-    ∷ []
-    ) (4 ∷ 4 ∷ 4 ∷ 4 ∷ 4 ∷ 4 ∷ 4 ∷ 4 ∷ 4 ∷ [])
+    -- an adjustment waits only behind one that runs
+    ∷ onEach (steering (8 * 2 ^ 32) noAdjustment (adjustment (2 ^ 32) 1) ∷ []) (4 ∷ [])
     -- the masks 0x3F37 and 0x3F7F, and each bit outside them
     ∷ onEach (
     interrupts 0x3F37 0x3F7F
@@ -178,11 +177,19 @@ recordLimits =
     ∷ interrupts (2 ^ 15) 0 ∷ interrupts (2 ^ 16) 0 ∷ interrupts 0 (2 ^ 7) ∷ interrupts 0 (2 ^ 14)
     ∷ interrupts 0 (2 ^ 15) ∷ interrupts 0 (2 ^ 16)
     ∷ []
-    ) (0 ∷ 4 ∷ 4 ∷ 4 ∷ 4 ∷ 4 ∷ 4 ∷ 4 ∷ 4 ∷ 4 ∷ 4 ∷ [])
+    ) (0 ∷ replicate 10 4)
     -- words of 16 bits
     ∷ onEach (
     words 65535 65535 65535 65535 65535
     ∷ words 65536 0 0 0 0 ∷ words 0 65536 0 0 0 ∷ words 0 0 65536 0 0 ∷ words 0 0 0 65536 0 ∷ words 0 0 0 0 65536
     ∷ []
-    ) (0 ∷ 4 ∷ 4 ∷ 4 ∷ 4 ∷ 4 ∷ [])
+    ) (0 ∷ replicate 5 4)
     ∷ []
+
+-- every part in each of its places
+unfoldable pub recordLimits : List Example
+recordLimits =
+    partLimits ++ adjustmentLimits running ++ adjustmentLimits waiting ++ fifoLimits fifo1 ++ fifoLimits fifo2
+    ++ fifoLimits fifo3
+    ++ generatorLimits generator1
+    ++ generatorLimits generator2
