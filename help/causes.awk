@@ -35,13 +35,18 @@ function is_utf16() {
     return size > 1 && (head[1] == 0) != (head[2] == 0)
 }
 
+# A digit of either base, an x or a comma.
+function may_stand(byte) {
+    return byte >= 48 && byte <= 57 || byte >= 97 && byte <= 102 || byte == 120 || byte == 44
+}
+
 # Bytes that belong in no line of a sheet.
 function look_at_bytes(    byte) {
     if (line == 1 && head[1] == 239 && head[2] == 187 && head[3] == 191) say("a byte order mark stands before the line")
-    if (line > 1 && text ~ /0[xX]/) say("a value is in base 16: values are decimal")
+    if (line > 1 && text ~ /[A-Z]/) say("there are capital letters in the line: base 16 is 0x and lower-case digits")
     for (byte = 0; byte < 256; byte++) if (seen[byte] && byte in mark) say(mark[byte])
     if (told || line == 1) return
-    for (byte = 0; byte < 256; byte++) if (seen[byte] && byte != 44 && (byte < 48 || byte > 57))
+    for (byte = 0; byte < 256; byte++) if (seen[byte] && !may_stand(byte))
         say(sprintf("the byte 0x%02X is neither a digit nor a comma", byte))
 }
 
@@ -53,11 +58,21 @@ function look_at_first_line() {
     else if (text != "op,a,b,c,d,e,f,g,h") say("the line has other names: " text)
 }
 
+# What stands behind 0x.
+function look_at_base_16(name, digits) {
+    if (digits == "") say(name " is 0x without a digit")
+    else if (digits ~ /x/) say(name " has an x among its digits")
+    else if (digits ~ /^0./) say(name " has a leading zero behind 0x")
+    else if (length(digits) > 16) say(name " is not below 2^64")
+}
+
 function look_at_values(    value, k) {
     if (text == "") say("the line is empty")
     else if (seen[44] != 8) say("the line has " seen[44] + 1 (seen[44] < 8 ? " values, too few" : " values, too many"))
     else for (k = split(text, value, ","); k; k--) {
         if (value[k] == "") say("value " k " is empty")
+        else if (value[k] ~ /^0x/) look_at_base_16("value " k, substr(value[k], 3))
+        else if (value[k] ~ /[a-fx]/) say("value " k " has a letter and does not begin with 0x")
         else if (value[k] ~ /^0./) say("value " k " has a leading zero")
         else if (length(value[k]) > 20 || length(value[k]) == 20 && "_" value[k] > "_18446744073709551615")
             say("value " k " is not below 2^64")

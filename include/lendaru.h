@@ -18,9 +18,9 @@ extern "C" {
 /* Bytes that are enough for the results of every sheet, as lendaru_results_room() returns it. */
 #define LENDARU_RESULTS_ROOM 138309
 
-/* The version of the sheet format, as lendaru_sheet_version() returns it. Version 2 has run lines, op 9, and
- * version 3 previews, op 10. */
-#define LENDARU_SHEET_VERSION 3
+/* The version of the sheet format, as lendaru_sheet_version() returns it. Version 2 has run lines, op 9,
+ * version 3 previews, op 10, and version 4 values in base 16. */
+#define LENDARU_SHEET_VERSION 4
 
 /* LENDARU_SHEET_VERSION.
  * Needs: nothing. Leaves: nothing changed. */

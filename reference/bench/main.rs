@@ -148,6 +148,15 @@ fn sheet_of(n: u64, busy: bool) -> Vec<u8> {
     s
 }
 
+/// A sheet of 1,000 loads of the same words, in decimal or in base 16.
+fn loads(base_16: bool) -> Vec<u8> {
+    let line: &[u8] = match base_16 {
+        true => b"1,0x5678,0x1234,0x0,0xc9ff,0x3b9a,0,0,0\n",
+        false => b"1,22136,4660,0,51711,15258,0,0,0\n",
+    };
+    [b"op,a,b,c,d,e,f,g,h\n".to_vec(), line.repeat(1000)].concat()
+}
+
 /// What a row does: ticks on a load, with check 4 before each or without; a whole sheet again and again; two commands
 /// by turns on a lent record with a load; or runs.
 enum Work {
@@ -178,6 +187,8 @@ fn rows() -> Vec<(&'static str, Work)> {
         ("command on a lent record, timestamp stored and read by turns", Lent(IDLE, stored_and_read)),
     ];
     rows.extend(runs::rows().into_iter().map(|(name, runs)| (name, Runs(runs))));
+    rows.push(("line of a sheet of 1,000 loads in decimal", Sheet(loads(false))));
+    rows.push(("line of a sheet of 1,000 loads in base 16", Sheet(loads(true))));
     rows
 }
 

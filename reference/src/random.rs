@@ -226,6 +226,15 @@ impl Random {
         all
     }
 
+    /// A number as a sheet may write it, in base 16 in so many of a hundred.
+    fn written(&mut self, n: u64, percent: u64) -> String {
+        if self.chance(percent) {
+            format!("{n:#x}")
+        } else {
+            n.to_string()
+        }
+    }
+
     /// A sheet: some are damaged, some too long, some no sheet at all.
     pub fn sheet(&mut self) -> Vec<u8> {
         if self.chance(3) {
@@ -233,10 +242,12 @@ impl Random {
         }
         let mut text = b"op,a,b,c,d,e,f,g,h\n".to_vec();
         let most = self.one_of(&[0, 1, 3, 30, 300, 3000]);
+        let base_16 = self.one_of(&[0, 0, 10, 50, 100]);
         let mut engine = Engine::new();
         for _ in 0..self.below(most + 1) {
             for c in self.commands_at(&engine, 40) {
-                let line = c.f.iter().fold(c.op.to_string(), |line, n| format!("{line},{n}")) + "\n";
+                let op = self.written(c.op, base_16);
+                let line = c.f.iter().fold(op, |line, &n| line + "," + &self.written(n, base_16)) + "\n";
                 if text.len() + line.len() <= 65536 {
                     text.extend_from_slice(line.as_bytes());
                     engine.execute(&c);
@@ -245,6 +256,20 @@ impl Random {
         }
         if self.chance(2) {
             text.resize(65530 + self.below(12) as usize, b'\n');
+        }
+        if self.chance(3) {
+            // a value of a bad form, or of a good one that makes a number of values too many or another number
+            let forms = [
+                "0x", "0X1f", "0x1F", "0x01", "0x00", "00x1", "x1", "0xg", "-0x1", "0x0", "0xffffffffffffffff",
+                "0x10000000000000000", "0x123456789abcdef01", "0x 1",
+            ];
+            let form = forms[self.below(forms.len() as u64) as usize];
+            let commas: Vec<usize> = (19..text.len()).filter(|&i| text[i] == b',').collect();
+            if !commas.is_empty() {
+                let from = commas[self.below(commas.len() as u64) as usize] + 1;
+                let length = text[from..].iter().position(|b| b",\n".contains(b)).unwrap_or(0);
+                text.splice(from..from + length, form.bytes());
+            }
         }
         if self.chance(10) {
             let at = self.below(text.len() as u64) as usize;

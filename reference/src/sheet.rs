@@ -5,11 +5,22 @@ use std::fmt::Write;
 const FIRST: &[u8] = b"op,a,b,c,d,e,f,g,h\n";
 const HEAD: &str = "line,answer,v1,v2,v3,v4,v5\n";
 
-fn value(text: &[u8]) -> Option<u64> {
-    if text.is_empty() || !text.iter().all(u8::is_ascii_digit) || (text[0] == b'0' && text.len() > 1) {
+/// Digits of a base, lower-case, without a leading zero, below 2^64.
+fn number(text: &[u8], base: u32) -> Option<u64> {
+    if text.is_empty() || (text[0] == b'0' && text.len() > 1) || text.iter().any(u8::is_ascii_uppercase) {
         return None;
     }
-    text.iter().try_fold(0u64, |n, d| n.checked_mul(10)?.checked_add(u64::from(d - b'0')))
+    text.iter().try_fold(0u64, |n, &b| {
+        let digit = char::from(b).to_digit(base)?;
+        n.checked_mul(u64::from(base))?.checked_add(u64::from(digit))
+    })
+}
+
+fn value(text: &[u8]) -> Option<u64> {
+    match text.strip_prefix(b"0x") {
+        Some(digits) => number(digits, 16),
+        None => number(text, 10),
+    }
 }
 
 fn command(line: &[u8]) -> Option<Command> {

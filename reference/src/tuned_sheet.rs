@@ -2,14 +2,36 @@
 use crate::engine::{Command, Outcome};
 use crate::tuned::{refuse, Engine};
 
+/// The digits behind 0x.
+fn base_16(line: &[u8], at: &mut usize) -> Option<u64> {
+    let mut v = 0u64;
+    loop {
+        let digit = match line.get(*at) {
+            Some(d @ b'0'..=b'9') => d - b'0',
+            Some(d @ b'a'..=b'f') => d - b'a' + 10,
+            _ => return Some(v),
+        };
+        if v >> 60 != 0 {
+            return None;
+        }
+        v = v << 4 | u64::from(digit);
+        *at += 1;
+    }
+}
+
 fn command(line: &[u8], at: &mut usize) -> Option<Command> {
     let mut n = [0u64; 9];
     for (i, n) in n.iter_mut().enumerate() {
-        let start = *at;
+        let mut start = *at;
         let mut v = 0u64;
         while let Some(d @ b'0'..=b'9') = line.get(*at) {
             v = v.checked_mul(10)?.checked_add(u64::from(d - b'0'))?;
             *at += 1;
+        }
+        if *at == start + 1 && line[start] == b'0' && line.get(*at) == Some(&b'x') {
+            *at += 1;
+            start = *at;
+            v = base_16(line, at)?;
         }
         if *at == start || (line[start] == b'0' && *at > start + 1) {
             return None;

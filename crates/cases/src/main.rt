@@ -16,6 +16,14 @@ fn run(name: &[u8]) {
     libc::close(fd);
 }
 
+// Values in base 16, beside decimal ones.
+fn base_16() {
+    run(b"base16_by_turns.csv");
+    run(b"base16_every_value.csv");
+    run(b"base16_largest.csv");
+    run(b"base16_the_same_in_decimal.csv");
+}
+
 // The edges of the rules.
 fn edges() {
     run(b"edge_W_255_and_256.csv");
@@ -28,6 +36,23 @@ fn edges() {
     run(b"edge_start_at_the_time_shown.csv");
     run(b"edge_timestamp_in_the_next_second.csv");
     run(b"edge_timestamp_to_the_nearest.csv");
+}
+
+// Values that are not quite in base 16: number 3, and in the first line 2.
+fn almost_base_16() {
+    run(b"line_16_17_digits.csv");
+    run(b"line_16_2_to_64.csv");
+    run(b"line_16_alone.csv");
+    run(b"line_16_capital_digit.csv");
+    run(b"line_16_capital_x.csv");
+    run(b"line_16_in_the_first_line.csv");
+    run(b"line_16_leading_zero.csv");
+    run(b"line_16_letter_g.csv");
+    run(b"line_16_minus.csv");
+    run(b"line_16_space.csv");
+    run(b"line_16_two_zeros.csv");
+    run(b"line_16_x_alone.csv");
+    run(b"line_16_zero_before.csv");
 }
 
 // Value lines of another form, number 3.
@@ -179,8 +204,10 @@ fn unreadable_sheet() {
 }
 
 fn main() {
+    base_16();
     edges();
     run(b"example_whole.csv");
+    almost_base_16();
     lines();
     numbers();
     previews();

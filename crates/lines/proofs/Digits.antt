@@ -9,21 +9,10 @@ use native.Mathlib.Nat.{add-zero, pow-suc, pow-le-pow-right}
 use native.Mathlib.Omega.{arith}
 use lib.ListN.{length, getD, take, drop, length-drop}
 use lib.Seq.{take-suc, getD-take, getD-drop}
-use borrow.Author.Tests.{lt-ltb, le-leb, ne-eqb}
-use Rattle.model.specs.Text.{comma, isDigit, allDigits, numberAfter, leadsWell, isValue, decimal}
-use Rattle.model.proofs.Laws.Testing.{both, both-true}
-use Rattle.model.proofs.Laws.Values.{decimal-of-value}
-
--- one more digit behind others
-digits-more : (bs : List ℕ) (b : ℕ) → allDigits bs ≡ true → isDigit b ≡ true → allDigits (bs ++ (b ∷ [])) ≡ true
-digits-more [] b h digit = both-true _ _ digit refl
-digits-more (a ∷ bs) b h digit =
-    let tests = both (isDigit a) (allDigits bs) h in
-    both-true _ _ (tests .0) (digits-more bs b (tests .1) digit)
-
-number-more : (v : ℕ) (bs : List ℕ) (b : ℕ) → numberAfter v (bs ++ (b ∷ [])) ≡ numberAfter v bs * 10 + (b - 48)
-number-more v [] b = refl
-number-more v (a ∷ bs) b = number-more (v * 10 + (a - 48)) bs b
+use borrow.Author.Tests.{lt-ltb, ne-eqb}
+use Rattle.model.specs.Text.{comma, allDigits, numberAfter, leadsWell, isNumber, decimal}
+use Rattle.model.proofs.Laws.Digits.{number-behind, digits-behind, decimal-byte}
+use Rattle.model.proofs.Laws.Decimal.{decimal-of-number}
 
 leads : (bs : List ℕ) → 48 < getD bs 0 0 → leadsWell bs ≡ true
 leads [] h = absurd (omega arith)
@@ -47,8 +36,8 @@ between-more s from i forth more =
 pub record DigitsTo (s : List ℕ) (from i v : ℕ) : Type 0 where
   pub forth : from ≤ i
   pub few : i ≤ from + 7
-  pub digits : allDigits (between s from i) ≡ true
-  pub number : numberAfter 0 (between s from i) ≡ v
+  pub digits : allDigits 10 (between s from i) ≡ true
+  pub number : numberAfter 10 0 (between s from i) ≡ v
   pub small : v < 10 ^ (i - from)
 
 pub digits-none : (s : List ℕ) (from : ℕ) → DigitsTo s from from 0
@@ -68,13 +57,13 @@ module _ {s : List ℕ} {from i v : ℕ} (to : DigitsTo s from i v) where
   digits-on room more low high =
       let b = getD s i 0 in
       let text = between-more s from i (to .forth) more in
-      let digit = both-true _ _ (le-leb 48 b low) (le-leb b 57 high) in
+      let digit = decimal-byte b low high in
       let next : i + 1 - from ≡ suc (i - from) = omega arith in
       record {
         forth = omega arith;
         few = omega arith;
-        digits = rw text (digits-more (between s from i) b (to .digits) digit);
-        number = rw (text, number-more, to .number);
+        digits = rw text (digits-behind 10 (between s from i) b (to .digits) (rw digit (omega arith)));
+        number = rw (text, number-behind 10 0 (between s from i) b, to .number, digit) refl;
         small = rw (next, pow-suc) (omega arith);
       }
 
@@ -92,9 +81,9 @@ module _ {s : List ℕ} {from i v : ℕ} (to : DigitsTo s from i v) where
         let some : 0 < i - from = omega (arith, digits-some) in
         leads (between s from i) (rw (getD-take (i - from) (drop from s) 0 0 some, getD-drop, add-zero) lead)
 
-    digits-value : isValue (between s from i) ≡ true
-    unfolding isValue
-    digits-value = rw (digits-lead, to .digits, to .number, lt-ltb v (2 ^ 64) (omega (arith, digits-below)))
+    digits-number : isNumber 10 (between s from i) ≡ true
+    unfolding isNumber
+    digits-number = rw (digits-lead, to .digits, to .number, lt-ltb v (2 ^ 64) (omega (arith, digits-below)))
 
     pub digits-decimal : decimal v ≡ between s from i
-    digits-decimal = rw (to .number) at (decimal-of-value (between s from i) digits-value)
+    digits-decimal = rw (to .number) at (decimal-of-number (between s from i) digits-number)

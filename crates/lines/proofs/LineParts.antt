@@ -11,11 +11,9 @@ use lib.Dec.{eqb, ltb}
 use borrow.Author.Tests.{eqb-false, ne-eqb, lt-ltb, le-ltb}
 use Rattle.model.specs.declared.Command.{Command}
 use Rattle.model.specs.declared.Line.{Line}
-use Rattle.model.specs.Text.{lineEnd, parts, firstPart}
+use Rattle.model.specs.Text.{lineEnd, Lacks, parts, firstPart}
 use Rattle.model.specs.Sheet.{isLine, commandIn, noLine, lineOf}
-use Rattle.model.proofs.Laws.Splits.{Lacks}
-use Rattle.model.proofs.Laws.Lines.{line-lacks-end, command-of-line}
-use Rattle.model.proofs.Laws.CommandSheets.{line-length}
+use Rattle.model.proofs.Laws.Lines.{line-is-long}
 use Rattle.lines.specs.Reading.{linePart}
 use Rattle.values.proofs.Parts.{first-into, first-take, rest-is}
 
@@ -47,22 +45,17 @@ first-behind sep (suc n) [] h = refl
 first-behind sep (suc n) (b ∷ bs) h =
     rw (first-into (eqb b sep) b (parts sep bs), ne-eqb b sep (h .0)) (ap (_∷_ b) (first-behind sep n bs (h .1)))
 
-line-facts : (l : List ℕ) → isLine l ≡ true → (17 ≤ length l) × (Lacks lineEnd l)
-line-facts l h =
-    let c = command-of-line l h in
-    (rw (sym (c .0)) (line-length _ (c .1)), rw (sym (c .0)) (line-lacks-end _ (c .1)))
-
 module _ (t : List ℕ) where
   abbrev here : List ℕ
   here = firstPart lineEnd t
 
   pub part-is-line : isLine (linePart t) ≡ true → linePart t ≡ here
-  part-is-line h = first-behind lineEnd 17 t (lacks-front lineEnd (take 17 t) _ (line-facts (linePart t) h .1))
+  part-is-line h = first-behind lineEnd 17 t (lacks-front lineEnd (take 17 t) _ (line-is-long (linePart t) h .1))
 
   pub line-is-part : isLine here ≡ true → linePart t ≡ here
   line-is-part h =
       let short : take 17 here ≡ take 17 t =
-      ap (take 17) (first-take lineEnd t) ∙ take-take 17 (length here) t (line-facts here h .0) in
+      ap (take 17) (first-take lineEnd t) ∙ take-take 17 (length here) t (line-is-long here h .0) in
       first-behind lineEnd 17 t (rw (← short) (lacks-take lineEnd 17 here (first-lacks lineEnd t)))
 
   -- both are lines, or neither is

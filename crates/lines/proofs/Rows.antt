@@ -13,9 +13,8 @@ use Rattle.model.specs.declared.Command.{Command}
 use Rattle.model.specs.Tests.{every}
 use Rattle.model.specs.Text.{lineEnd, firstPart, numbers, row, startsWith}
 use Rattle.model.specs.Sheet.{fieldsOf}
-use Rattle.model.proofs.Laws.Splits.{first-part}
+use Rattle.model.proofs.Laws.Splits.{first-part, starts-in}
 use Rattle.model.proofs.Laws.Lines.{line-ok, line-lacks-end, line-of-command}
-use Rattle.model.proofs.Laws.FormSheets.{starts-in}
 use Rattle.lines.specs.Reading.{ReadAt}
 use Rattle.lines.proofs.Starts.{starts-length}
 use Rattle.lines.proofs.LineParts.{part-end}

@@ -12,7 +12,7 @@ use lib.Seq.{drop-cons}
 use borrow.Author.Tests.{eq-eqb}
 use Rattle.model.specs.Text.{startsWith}
 use Rattle.model.proofs.Laws.Testing.{both, both-true}
-use Rattle.model.proofs.Laws.FormSheets.{starts-in}
+use Rattle.model.proofs.Laws.Splits.{starts-in}
 
 -- what all the bytes say, the test of one says with those that are left
 pub starts-turn : {whole same : Bool} (h s : List ℕ) (i : ℕ) → i < length h → length h ≤ length s

@@ -1,6 +1,7 @@
 -- The examples, as one list proved by one statement: the starred ones of document 01, each cell of its tables of words,
--- run lines, adjustments in succession, previews and timestamps. Each holds because the definitions compute: a run from
--- power-on gives the numbers that the papers state or that were worked out from them.
+-- run lines, adjustments in succession, previews, timestamps, the limits of records and fields, and values in base 16.
+-- Each holds because the definitions compute: a run from power-on gives the numbers that the papers state or that were
+-- worked out from them.
 use Prim.Native.Nat.{ℕ}
 use mathlib.Core.Path.{_≡_, refl}
 use mathlib.Core.List.{List, [], _∷_, _++_, map}
@@ -37,7 +38,8 @@ use Rattle.model.proofs.Examples.Previews.{previews}
 use Rattle.model.proofs.Examples.Rounding.{timestamps}
 use Rattle.model.proofs.Examples.RecordLimits.{recordLimits, answersOn}
 use Rattle.model.proofs.Examples.FieldLimits.{fieldLimits, answersTo}
--- commands, the six parts of the list
+use Rattle.model.proofs.Examples.Writings.{writings, told, toldOf}
+-- commands, the parts of the list
 pub mod Runs
 pub mod Starred
 pub mod Cells
@@ -47,9 +49,11 @@ pub mod Previews
 pub mod Rounding
 pub mod RecordLimits
 pub mod FieldLimits
+pub mod Writings
 
 pub examples : List Example
-examples = starred ++ cells ++ runLines ++ adjustments ++ previews ++ timestamps ++ recordLimits ++ fieldLimits
+examples =
+    starred ++ cells ++ runLines ++ adjustments ++ previews ++ timestamps ++ recordLimits ++ fieldLimits ++ writings
 
 -- two lists of numbers are compared number by number, so that a list that is not as stated fails at once
 same : List ℕ → List ℕ → Bool
@@ -80,7 +84,8 @@ stated-equal (x ∷ xs) h =
     rw (same-equal (x .found) (x .stated) (t .0), stated-equal xs (t .1))
 
 examples-tested : asStated examples ≡ true
-unfolding examples starred cells runLines adjustments previews timestamps recordLimits fieldLimits answersOn answersTo
+unfolding examples starred cells runLines adjustments previews timestamps recordLimits fieldLimits writings told toldOf
+    answersOn answersTo
     timeCell amountCell countCell refusedCell asStated same answers lastValues values shownAfter edgeAt edgesFrom
     verdict engineBy historyBy Words.secondsIn Words.nanosecondsIn Words.aboveNanoseconds Words.wholeIn Words.fracIn
     Words.amountIn Words.belowFrac Words.countIn Words.timeWords Clock.cycleAmount Clock.stepBy Clock.remainderBy
@@ -93,9 +98,10 @@ unfolding examples starred cells runLines adjustments previews timestamps record
     Ranges.interruptsOk Ranges.wordsOk Ranges.valid Fields.fieldTests Fields.fieldsOk Checks.checks Checks.answerOf
     Tick.tickEvents Tick.tickEngine Tick.tickValues Tick.ticks Tick.inTimeFor RunLine.hasEnded RunLine.oneMore
     RunLine.run RunLine.ran OtherOps.written OtherOps.readWords OtherOps.readEngine OtherOps.commanded
-    OtherOps.interruptsRead OtherOps.statusOf Preview.previewed Ops.performed Execute.execute Text.isValue
-    Forms.readsLine Forms.rowIn Forms.headVerdict Forms.verdictOf Sheet.commandSheet Sheet.commandsIn
-    Text.decimal Results.results
+    OtherOps.interruptsRead OtherOps.statusOf Preview.previewed Ops.performed Execute.execute Text.isNumber
+    Text.isValue Text.numberOf Forms.readsLine Forms.rowIn Forms.headVerdict Forms.verdictOf Sheet.commandSheet
+    Sheet.commandsIn Text.valueOf Text.decimal Text.base16
+    Results.results
 examples-tested = refl
 
 -- every example is as stated

@@ -45,6 +45,7 @@ pub mod Eighths
 pub mod Lag
 -- sheets: what is written is read, and what is read is what was written; numbers, the parts of a text, lines and sheets
 -- of any form, and the command sheet
+pub mod Digits
 pub mod Decimal
 pub mod Values
 pub mod Splits
@@ -52,6 +53,8 @@ pub mod FormLines
 pub mod FormSheets
 pub mod Lines
 pub mod CommandSheets
+pub mod TwoWritings
+pub mod PlainSheets
 -- its results: the values of an outcome are words, and the results of every sheet fit into the room for them
 pub mod ResultValues
 pub mod ResultsFit

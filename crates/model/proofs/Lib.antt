@@ -10,6 +10,7 @@ pub mod WaitingAdjustment
 pub mod PreviewIsRehearsal
 pub mod BeforeWaiting
 pub mod Sheets
+pub mod EitherWriting
 pub mod Examples
 pub mod Laws
 pub mod Follow

@@ -5,12 +5,12 @@
 use Prim.Native.Nat.{ℕ, _≤_}
 use mathlib.Core.Path.{_≡_, refl, ap, _∙_}
 use mathlib.Core.Bool.{true}
-use mathlib.Core.List.{List, _++_}
+use mathlib.Core.List.{List, _++_, map}
 use lib.ListN.{length}
 use Rattle.model.specs.declared.Command.{Command}
 use Rattle.model.specs.Run.{history}
-use Rattle.model.specs.Forms.{sheetAccepted}
-use Rattle.model.specs.Sheet.{Writes, sheetVerdict, commandsIn, sheetText, fieldsFit}
+use Rattle.model.specs.Forms.{WritesSheet, sheetAccepted}
+use Rattle.model.specs.Sheet.{decimalSheet, fieldsOf, Writes, sheetVerdict, commandsIn, sheetText, fieldsFit}
 use Rattle.model.specs.Results.{resultHead, resultLines, results}
 use Rattle.model.proofs.Laws.CommandSheets as Law
 use Rattle.model.proofs.Laws.ResultsFit.{results-accepted}
@@ -52,6 +52,7 @@ text-writes = Law.text-writes
 pub list-is-sheet : (cs : List Command) → fieldsFit cs ≡ true → length (sheetText cs) ≤ 65536 → RunOf (sheetText cs) cs
 list-is-sheet cs fit short = written-is-read (sheetText cs) cs (Law.text-writes cs fit) short
 
--- and while values are in decimal alone, nothing else does
-pub one-text : (s : List ℕ) (cs : List Command) → Writes s cs → (s ≡ sheetText cs) × (fieldsFit cs ≡ true)
-one-text = Law.writes-text
+-- and in decimal alone nothing else does
+pub one-text : (s : List ℕ) (cs : List Command) → WritesSheet decimalSheet s (map fieldsOf cs)
+    → (s ≡ sheetText cs) × (fieldsFit cs ≡ true)
+one-text = Law.decimal-text

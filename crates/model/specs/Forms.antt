@@ -3,12 +3,14 @@
 -- which "the size, first-line and form checks carry over".
 use Prim.Native.Nat.{ℕ, _+_, _^_, _<_}
 use mathlib.Core.Path.{_≡_}
+use mathlib.Core.Logic.{_⊎_}
 use mathlib.Core.List.{List, [], _∷_, _++_}
 use mathlib.Core.Bool.{Bool, true, false, _&&_, cond}
 use lib.Dec.{eqb, ltb}
 use lib.ListN.{length, drop}
 use Rattle.model.specs.declared.Verdict.{Verdict}
-use Rattle.model.specs.Text.{comma, lineEnd, isValue, numberAfter, parts, startsWith, decimal}
+use Rattle.model.specs.Text.{comma, lineEnd, numberAfter, isNumber, startsWith, basePrefix, isValue, numberOf}
+use Rattle.model.specs.Text.{parts, decimal, base16}
 
 -- a value: which bytes write which number; and for a reader, which bytes are a value, and what number they read as
 pub record ValueForm : Type 1 where
@@ -20,8 +22,24 @@ pub record ValueForm : Type 1 where
 abbrev pub decimalValue : ValueForm
 decimalValue = record {
   Writes = λ bs n. (bs ≡ decimal n) × (n < 2 ^ 64);
+  reads = isNumber 10;
+  number = numberAfter 10 0;
+}
+
+-- the same in base 16, behind 0x; document 02, A.6
+abbrev pub base16Value : ValueForm
+base16Value = record {
+  Writes = λ bs n. (bs ≡ base16 n) × (n < 2 ^ 64);
+  reads = λ bs. startsWith basePrefix bs && isNumber 16 (drop 2 bs);
+  number = λ bs. numberAfter 16 0 (drop 2 bs);
+}
+
+-- either
+abbrev pub eitherValue : ValueForm
+eitherValue = record {
+  Writes = λ bs n. decimalValue .Writes bs n ⊎ base16Value .Writes bs n;
   reads = isValue;
-  number = numberAfter 0;
+  number = numberOf;
 }
 
 -- a sheet: its first line with its line end, and the values of a line

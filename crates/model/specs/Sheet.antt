@@ -10,20 +10,24 @@ use Rattle.model.specs.declared.Line.{Line}
 use Rattle.model.specs.declared.Verdict.{Verdict}
 use Rattle.model.specs.Tests.{every}
 use Rattle.model.specs.Text.{bytes, row}
-use Rattle.model.specs.Forms.{Form, decimalValue, readsLine, rowIn, rowsOf, rowsIn, linesVerdict, verdictOf}
-use Rattle.model.specs.Forms.{WritesSheet}
+use Rattle.model.specs.Forms.{Form, decimalValue, eitherValue, WritesSheet, readsLine, rowIn, rowsOf, rowsIn}
+use Rattle.model.specs.Forms.{linesVerdict, verdictOf}
 
--- the version of the sheet format: 1 is document 01's, 2 has run lines, 3 previews (document 02, A.1 and A.5). A change
--- of what a sheet may say counts it on
+-- the version of the sheet format: 1 is document 01's, 2 has run lines, 3 previews, 4 values in base 16 (document 02,
+-- A.1, A.5 and A.6). A change of what a sheet may say counts it on
 abbrev pub sheetVersion : ℕ
-sheetVersion = 3
+sheetVersion = 4
 
 -- `op,a,b,c,d,e,f,g,h` and its line end, then lines of nine values
 abbrev pub firstLine : List ℕ
 firstLine = bytes "op,a,b,c,d,e,f,g,h\n"
 
 unfoldable pub commandSheet : Form
-commandSheet = record { firstLine = firstLine; values = replicate 9 decimalValue }
+commandSheet = record { firstLine = firstLine; values = replicate 9 eitherValue }
+
+-- the sheet as it was before document 02, A.6, in decimal alone
+unfoldable pub decimalSheet : Form
+decimalSheet = record { firstLine = firstLine; values = replicate 9 decimalValue }
 
 -- nine numbers as a command, and a command as nine numbers
 abbrev pub commandOf : List ℕ → Command

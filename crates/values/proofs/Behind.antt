@@ -7,15 +7,15 @@ use mathlib.Core.List.{List, [], _∷_, _++_}
 use native.Mathlib.Decide.{decLt}
 use native.Mathlib.Omega.{arith}
 use lib.ListN.{length, drop}
-use Rattle.model.specs.Text.{comma, numberAfter, isValue, parts, firstPart}
+use Rattle.model.specs.Text.{comma, numberOf, isValue, parts, firstPart}
 use Rattle.model.specs.Forms.{ValueForm, readsEach, numbersOf}
 use Rattle.model.proofs.Laws.Splits.{parts-some}
-use Rattle.model.proofs.Laws.Lines.{decimals}
+use Rattle.model.proofs.Laws.Lines.{eithers}
 use Rattle.values.specs.Fronts.{Found, withFirst, frontIn}
 use Rattle.values.proofs.Parts.{parts-last, parts-more}
 
 module _ (v : ValueForm) (vs : List ValueForm) where
-  more-places : (k : ℕ) → readsEach (decimals k ++ (v ∷ vs)) [] ≡ false
+  more-places : (k : ℕ) → readsEach (eithers k ++ (v ∷ vs)) [] ≡ false
   more-places zero = refl
   more-places (suc k) = refl
 
@@ -25,7 +25,7 @@ module _ (v : ValueForm) (vs : List ValueForm) where
   no-first false x n f g h s = refl
 
   pub no-front : (ns : List ℕ) (at : ℕ) (ps : List (List ℕ)) → frontIn ns at ps .ok ≡ false
-      → readsEach (decimals (length ns) ++ (v ∷ vs)) ps ≡ false
+      → readsEach (eithers (length ns) ++ (v ∷ vs)) ps ≡ false
   no-front [] at ps h = absurd (false≢true (sym h))
   no-front (n ∷ ns) at [] h = refl
   no-front (n ∷ ns) at (p ∷ []) h = rw (more-places (length ns)) (and-false (isValue p))
@@ -37,9 +37,9 @@ pub record Behind (vs : List ValueForm) (s ns : List ℕ) (at : ℕ) (f : Found)
   pub inside : f .end ≤ length s
   pub full : length (f .numbers) ≡ length ns
   pub reads :
-      readsEach (decimals (length ns) ++ vs) (parts comma (drop at s)) ≡ readsEach vs (parts comma (drop (f .end) s))
+      readsEach (eithers (length ns) ++ vs) (parts comma (drop at s)) ≡ readsEach vs (parts comma (drop (f .end) s))
   pub numbers :
-      numbersOf (decimals (length ns) ++ vs) (parts comma (drop at s))
+      numbersOf (eithers (length ns) ++ vs) (parts comma (drop at s))
       ≡ f .numbers ++ numbersOf vs (parts comma (drop (f .end) s))
 
 -- a first part that is a value, with parts behind it
@@ -50,7 +50,7 @@ first-value false n f g none h = absurd (false≢true (sym none ∙ h))
 front-first : (n : ℕ) (ns : List ℕ) (at : ℕ) (p : List ℕ) (ps : List (List ℕ)) → 0 < length ps
     → frontIn (n ∷ ns) at (p ∷ ps) .ok ≡ true
     → (isValue p ≡ true)
-    × (frontIn (n ∷ ns) at (p ∷ ps) ≡ withFirst (numberAfter 0 p) (frontIn ns (at + length p + 1) ps))
+    × (frontIn (n ∷ ns) at (p ∷ ps) ≡ withFirst (numberOf p) (frontIn ns (at + length p + 1) ps))
 front-first n ns at p [] some h = absurd (omega arith)
 front-first n ns at p (q ∷ ps) some h =
     let t = first-value (isValue p) _ (frontIn ns (at + length p + 1) (q ∷ ps)) _ refl h in
@@ -76,7 +76,7 @@ module _ (vs : List ValueForm) (s : List ℕ) where
               inside = rw (here, first .1) (on .inside);
               full = rw (here, first .1) (ap suc (on .full));
               reads = rw (here, first .1, first .0) (on .reads);
-              numbers = rw (here, first .1) (ap (λ (xs : List ℕ). numberAfter 0 p ∷ xs) (on .numbers));
+              numbers = rw (here, first .1) (ap (λ (xs : List ℕ). numberOf p ∷ xs) (on .numbers));
             }
         | no last ↦ absurd (false≢true (rw (parts-last comma s at (length p) refl (omega arith)) at ok))
       ]

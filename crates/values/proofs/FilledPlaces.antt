@@ -11,7 +11,7 @@ use lib.ListN.{length, take, drop, getD, set, length-set, take-append-drop, drop
 use lib.Seq.{take-suc-set, drop-set-lt, drop-cons, take-all}
 use borrow.Author.Tests.{lt-ltb, ltb-true}
 use Rattle.model.specs.declared.Value.{Value}
-use Rattle.model.specs.Text.{comma, numberAfter, isValue, noValue, valueOf, parts, firstPart}
+use Rattle.model.specs.Text.{comma, numberOf, isValue, noValue, valueOf, parts, firstPart}
 use Rattle.model.proofs.Laws.Splits.{parts-some}
 use Rattle.values.specs.declared.Taken.{Taken}
 use Rattle.values.specs.Taking.{TakenAt}
@@ -28,7 +28,7 @@ ahead-first xs n f = rw append-assoc refl
 
 -- the first part is a value, or none
 front-value : (n : ℕ) (ns : List ℕ) (at : ℕ) (p : List ℕ) (ps : List (List ℕ)) (v from : ℕ) → 0 < length ps
-    → isValue p ≡ true → v ≡ numberAfter 0 p → from ≡ at + length p + 1
+    → isValue p ≡ true → v ≡ numberOf p → from ≡ at + length p + 1
     → withFirst v (frontIn ns from ps) ≡ frontIn (n ∷ ns) at (p ∷ ps)
 front-value n ns at p [] v from h t e f = absurd (omega arith)
 front-value n ns at p (q ∷ ps) v from h t e f = rw (t, e, f) refl

@@ -5,7 +5,7 @@ use mathlib.Core.Path.{_≡_}
 use mathlib.Core.List.{List, [], _∷_}
 use mathlib.Core.Bool.{Bool, true, false, cond}
 use lib.ListN.{length}
-use Rattle.model.specs.Text.{comma, numberAfter, isValue, parts}
+use Rattle.model.specs.Text.{comma, numberOf, isValue, parts}
 use Rattle.values.specs.declared.Front.{Front}
 
 -- whether each place has its number, the numbers in the places, and the index behind the last comma that was passed
@@ -26,7 +26,7 @@ frontIn (n ∷ ns) at [] = record { ok = false; numbers = n ∷ ns; end = at }
 frontIn (n ∷ ns) at (p ∷ []) = record { ok = false; numbers = n ∷ ns; end = at }
 frontIn (n ∷ ns) at (p ∷ q ∷ ps) =
     cond (isValue p)
-    (withFirst (numberAfter 0 p) (frontIn ns (at + length p + 1) (q ∷ ps)))
+    (withFirst (numberOf p) (frontIn ns (at + length p + 1) (q ∷ ps)))
     (record { ok = false; numbers = n ∷ ns; end = at })
 
 -- what a reader has found, with these numbers left in the places

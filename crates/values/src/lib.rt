@@ -1,16 +1,19 @@
-// One value of a command sheet: decimal digits without leading zeros, below 2^64, by itself or at an index of a line,
-// up to its comma; the values at the front of a line; and some bytes as a number. Each function returns a definition of
-// the model's specs/Text.antt or of specs/. Document 01, "Command sheet".
+// One value of a command sheet, in decimal or in base 16, without leading zeros and below 2^64, by itself or at an
+// index of a line, up to its comma; the values at the front of a line; and some bytes as a number. Each function
+// returns a definition of the model's specs/Text.antt or of specs/. Document 01, "Command sheet"; document 02, A.6.
 ghost use mathlib.Core.Path.{_≡_};
 ghost use Prim.Native.Nat.{_+_, _^_, _<_, _≤_};
 ghost use lib.ListN.{length};
 ghost use Rattle.model.specs.Text.{noValue, leadsWell, valueOf};
 ghost use Rattle.values.specs.Bytes.{pairAt, fourAt, eightAt};
-ghost use Rattle.values.specs.Digits.{digitAfter};
+ghost use Rattle.values.specs.Digits.{digitAfter, numberIn};
 ghost use Rattle.values.specs.Taking.{RunTo, DigitAt, TwoAt, TakenAt};
 ghost use Rattle.values.specs.Fronts.{FrontOf};
+use base_16::read_base_16;
 use bits::join;
 use model::Value;
+
+mod base_16;
 
 fn no_value() -> Value
     ensures { λ r. ⌜ r ≡ noValue ⌝ }
@@ -28,9 +31,9 @@ pub fn wide(b: u8) -> u64
     b as u64
 }
 
-// The number v with one more digit, where the byte is one and the number stays below 2^64.
+// The number v with one more digit in decimal, where the byte is one and the number stays below 2^64.
 fn next_digit(v: u64, b: u8) -> Value
-    ensures { λ r. ⌜ r ≡ digitAfter v b ⌝ }
+    ensures { λ r. ⌜ r ≡ digitAfter 10 v b ⌝ }
 {
     if b < 48 {
         return no_value();
@@ -67,9 +70,9 @@ fn leads_well(s: &[u8]) -> bool
     s[0] != 48
 }
 
-// One value.
-pub fn read_value(s: &[u8]) -> Value
-    ensures { λ r. ⌜ r ≡ valueOf (now (s .entry)) ⌝ }
+// A value in decimal.
+fn read_decimal(s: &[u8]) -> Value
+    ensures { λ r. ⌜ r ≡ numberIn 10 (now (s .entry)) ⌝ }
 {
     // Most values of a sheet have one digit.
     if s.len() == 1 {
@@ -92,6 +95,17 @@ pub fn read_value(s: &[u8]) -> Value
         };
     }
     no_value()
+}
+
+// One value.
+pub fn read_value(s: &[u8]) -> Value
+    ensures { λ r. ⌜ r ≡ valueOf (now (s .entry)) ⌝ }
+{
+    let decimal = read_decimal(s);
+    if decimal.ok {
+        return decimal;
+    }
+    read_base_16(s)
 }
 
 // How many bytes stand before the next separator.
@@ -189,7 +203,11 @@ pub fn take_value(s: &[u8], at: usize) -> Taken
     if s.len() <= end {
         return value_to(false, 0, end);
     }
-    let value = read_value(&s[at..end]);
+    let decimal = read_decimal(&s[at..end]);
+    if decimal.ok {
+        return value_to(true, decimal.number, end);
+    }
+    let value = read_base_16(&s[at..end]);
     value_to(value.ok, value.number, end)
 }
 

@@ -31,7 +31,7 @@ fn main() {
     let seed = args.get(1).copied().unwrap_or(1);
     // SAFETY: they take nothing.
     let (version, room) = unsafe { (lendaru_sheet_version(), lendaru_results_room()) };
-    assert_eq!(version, 3);
+    assert_eq!(version, 4);
     std::panic::set_hook(Box::new(|why| {
         eprintln!("{why}\nTo see it again: compare 1 {}", SEED.load(Ordering::Relaxed));
     }));

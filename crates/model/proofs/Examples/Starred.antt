@@ -102,7 +102,7 @@ starred =
     ∷ record { found = answers (line 9 1 0 0 0 0 ∷ line 11 1 0 0 0 0 ∷ []); stated = 0 ∷ 5 ∷ [] }
     -- Not starred: the versions of the sheet format (run lines and previews counted it on) and of the record (the
     -- waiting adjustment did).
-    ∷ record { found = sheetVersion ∷ recordVersion ∷ []; stated = 3 ∷ 2 ∷ [] }
+    ∷ record { found = sheetVersion ∷ recordVersion ∷ []; stated = 4 ∷ 2 ∷ [] }
     -- Not starred: each input has its FIFO and its selector (eighths 1, 3 and 5 of 8 ns).
     ∷ record {
       found =

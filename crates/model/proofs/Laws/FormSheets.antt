@@ -2,42 +2,25 @@
 -- empty. So a sheet that writes rows reads as these rows, and an accepted sheet writes the rows that it reads as.
 use Prim.Native.Nat.{ℕ, _+_, _≤_, _<_}
 use mathlib.Core.Path.{_≡_, refl, ap, _∙_}
-use mathlib.Core.Bool.{Bool, true, false, cond, false≢true}
+use mathlib.Core.Bool.{Bool, true, false, cond}
 use mathlib.Core.List.{List, [], _∷_, _++_}
 use native.Mathlib.Omega.{arith}
 use lib.Dec.{eqb, ltb}
 use lib.ListN.{length, drop}
 use lib.Seq.{append-snoc}
-use borrow.Author.Tests.{le-ltb, eq-eqb, eqb-true, ltb-false}
+use borrow.Author.Tests.{le-ltb, eqb-true, ltb-false}
 use Rattle.model.specs.declared.Verdict.{Verdict}
 use Rattle.model.specs.Text.{lineEnd, parts, startsWith}
 use Rattle.model.specs.Forms.{Form, WritesLines, WritesSheet, readsLine, rowIn, rowsOf, rowsIn}
 use Rattle.model.specs.Forms.{refusedAt, sheetAccepted, linesVerdict, headVerdict, verdictOf}
-use Rattle.model.proofs.Laws.Testing.{both, both-true}
-use Rattle.model.proofs.Laws.Splits.{joined, joined-parts, first-part, parts-some}
+use Rattle.model.proofs.Laws.Splits.{joined, joined-parts, first-part, parts-some, starts-in, starts-front}
+use Rattle.model.proofs.Laws.Splits.{drop-front}
 use Rattle.model.proofs.Laws.FormLines.{AllInverse, LineIn, line-in, line-written}
 
 -- an accepted sheet was not refused at a test
 pub passed : (t : Bool) (v w : Verdict) → 0 < w .answer → cond t v w ≡ sheetAccepted → (t ≡ true) × (v ≡ sheetAccepted)
 passed true v w some h = (refl, h)
 passed false v w some h = absurd (omega (arith, ap (λ r. r .answer) h))
-
--- a text starts with its head
-pub starts-in : (h s : List ℕ) → startsWith h s ≡ true → s ≡ h ++ drop (length h) s
-starts-in [] s e = refl
-starts-in (b ∷ h) [] e = absurd (false≢true e)
-starts-in (b ∷ h) (d ∷ s) e =
-    let tests = both (eqb d b) (startsWith h s) e in
-    let rest = starts-in h s (tests .1) in
-    cc (eqb-true d b (tests .0))
-
-starts-front : (h s : List ℕ) → startsWith h (h ++ s) ≡ true
-starts-front [] s = refl
-starts-front (b ∷ h) s = both-true (eqb b b) _ (eq-eqb b b refl) (starts-front h s)
-
-drop-front : (h s : List ℕ) → drop (length h) (h ++ s) ≡ s
-drop-front [] s = refl
-drop-front (b ∷ h) s = drop-front h s
 
 -- a line in front of others
 rows-first : (f : Form) (l : List ℕ) (ps : List (List ℕ)) → 0 < length ps → rowsOf f (l ∷ ps) ≡ rowIn f l ∷ rowsOf f ps

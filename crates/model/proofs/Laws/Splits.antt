@@ -1,16 +1,17 @@
--- A text is its parts, with a separator between them, and parts that lack the separator are the parts of such a text.
-use Prim.Native.Nat.{ℕ, _<_}
+-- A text is its parts, with a separator between them, and parts that lack the separator are the parts of such a text. A
+-- text that starts with another is that one and the rest.
+use Prim.Native.Nat.{ℕ, _≤_, _<_}
 use mathlib.Core.Path.{_≡_, refl, ap, _∙_}
-use mathlib.Core.Bool.{Bool, true, false}
+use mathlib.Core.Bool.{Bool, true, false, false≢true}
 use mathlib.Core.List.{List, [], _∷_, _++_, tail, append-nil}
 use native.Mathlib.Omega.{arith}
-use lib.Dec.{eqb}
-use lib.ListN.{length}
-use borrow.Author.Tests.{eq-eqb, ne-eqb, eqb-true}
-use Rattle.model.specs.Text.{comma, lineEnd, isDigit, allDigits, intoParts, parts}
+use lib.Dec.{eqb, ltb}
+use lib.ListN.{length, drop}
+use borrow.Author.Tests.{eq-eqb, ne-eqb, eqb-true, ltb-true}
+use Rattle.model.specs.Text.{comma, lineEnd, digitOf, allDigits, startsWith, Lacks, intoParts, parts}
 use Rattle.model.specs.Forms.{withCommas}
-use Rattle.model.proofs.Laws.Testing.{both}
-use Rattle.model.proofs.Laws.Values.{digit-in}
+use Rattle.model.proofs.Laws.Testing.{both, both-true}
+use Rattle.model.proofs.Laws.Digits.{digit-byte}
 
 -- parts, each with the separator before it
 abbrev pub joined : ℕ → List (List ℕ) → List ℕ
@@ -28,22 +29,17 @@ pub joined-parts : (sep : ℕ) (bs : List ℕ) → joined sep (parts sep bs) ≡
 joined-parts sep [] = refl
 joined-parts sep (b ∷ bs) = joined-into (eqb b sep) sep b bs (parts sep bs) refl (joined-parts sep bs)
 
--- a text without the separator
-abbrev pub Lacks : ℕ → List ℕ → Type 0
-Lacks sep [] = Unit {0}
-Lacks sep (b ∷ bs) = (b ≡ sep → ⊥) × Lacks sep bs
-
 pub lacks-both : (sep : ℕ) (bs cs : List ℕ) → Lacks sep bs → Lacks sep cs → Lacks sep (bs ++ cs)
 lacks-both sep [] cs g h = h
 lacks-both sep (b ∷ bs) cs g h = (g .0, lacks-both sep bs cs (g .1) h)
 
 -- digits are bytes from 48 on
-pub digits-lack : (sep : ℕ) (bs : List ℕ) → sep < 48 → allDigits bs ≡ true → Lacks sep bs
-digits-lack sep [] l h = tt
-digits-lack sep (b ∷ bs) l h =
-    let tests = both (isDigit b) (allDigits bs) h in
-    let digit = digit-in b (tests .0) in
-    ((λ e. omega arith), digits-lack sep bs l (tests .1))
+pub digits-lack : (base sep : ℕ) (bs : List ℕ) → base ≤ 16 → sep < 48 → allDigits base bs ≡ true → Lacks sep bs
+digits-lack base sep [] few l h = tt
+digits-lack base sep (b ∷ bs) few l h =
+    let tests = both (ltb (digitOf b) base) (allDigits base bs) h in
+    let digit = digit-byte b (omega (arith, ltb-true (digitOf b) base (tests .0))) in
+    ((λ e. omega (arith, digit .least)), digits-lack base sep bs few l (tests .1))
 
 pub one-part : (sep : ℕ) (p : List ℕ) → Lacks sep p → parts sep p ≡ p ∷ []
 one-part sep [] h = refl
@@ -87,3 +83,20 @@ commas-lack [] h = tt
 commas-lack (t ∷ []) h = h .0
 commas-lack (t ∷ u ∷ ts) h =
     lacks-both lineEnd t (comma ∷ withCommas (u ∷ ts)) (h .0) ((λ e. omega arith), commas-lack (u ∷ ts) (h .1))
+
+-- a text starts with its head
+pub starts-in : (h s : List ℕ) → startsWith h s ≡ true → s ≡ h ++ drop (length h) s
+starts-in [] s e = refl
+starts-in (b ∷ h) [] e = absurd (false≢true e)
+starts-in (b ∷ h) (d ∷ s) e =
+    let tests = both (eqb d b) (startsWith h s) e in
+    let rest = starts-in h s (tests .1) in
+    cc (eqb-true d b (tests .0))
+
+pub starts-front : (h s : List ℕ) → startsWith h (h ++ s) ≡ true
+starts-front [] s = refl
+starts-front (b ∷ h) s = both-true (eqb b b) _ (eq-eqb b b refl) (starts-front h s)
+
+pub drop-front : (h s : List ℕ) → drop (length h) (h ++ s) ≡ s
+drop-front [] s = refl
+drop-front (b ∷ h) s = drop-front h s
