@@ -19,8 +19,8 @@ extern "C" {
 #define LENDARU_RESULTS_ROOM 138309
 
 /* The version of the sheet format, as lendaru_sheet_version() returns it. Version 2 has run lines, op 9,
- * version 3 previews, op 10, and version 4 values in base 16. */
-#define LENDARU_SHEET_VERSION 4
+ * version 3 previews, op 10, version 4 values in base 16, and version 5 departure times, ops 11 and 12. */
+#define LENDARU_SHEET_VERSION 5
 
 /* LENDARU_SHEET_VERSION.
  * Needs: nothing. Leaves: nothing changed. */

@@ -1,6 +1,6 @@
-//! Rows of runs, as lines of a sheet and on a lent record, and of previews, as lines of a sheet. A unit is one run or
-//! preview: what a sheet with more such lines, or a record with more runs, costs more, divided by their number, so that
-//! nothing else is in it. The tuned engine ticks, so of its long runs only few are done.
+//! Rows of runs, as lines of a sheet and on a lent record, and of previews and departure times, as lines of a sheet. A
+//! unit is one of them: what a sheet with more such lines, or a record with more runs, costs more, divided by their
+//! number, so that nothing else is in it. The tuned engine ticks, so of its long runs only few are done.
 use crate::engine::{Command, Outcome};
 use crate::{command, lendaru_execute, lendaru_power_on, lendaru_run, sheets};
 use std::hint::black_box;
@@ -19,11 +19,11 @@ const FEW: u64 = 8;
 const MANY: u64 = 16;
 
 pub struct Runs {
-    /// 9, or 10 for previews
+    /// 9, 10 for previews, or 11 and 12 for departure times
     op: u64,
     orders: Vec<Command>,
-    /// what a run asks for, and the ticks that it does
-    most: u64,
+    /// what a run asks for, or another op's first two fields; and the ticks that it does
+    fields: [u64; 2],
     ticks: u64,
     lent: bool,
     /// whether the orders are for one run: a sheet or a record then has one or none
@@ -43,7 +43,7 @@ pub fn rows() -> Vec<(&'static str, Runs)> {
     let (far, near) = (vec![train(1, 3, 1_000_000, 1, 3)], vec![train(1, 3, 320, 1, 3)]);
     let row = |name, orders: &[Command], most, ticks, lent| {
         let orders = orders.to_vec();
-        (name, Runs { op: 9, orders, most, ticks, lent, once: false })
+        (name, Runs { op: 9, orders, fields: [most, 0], ticks, lent, once: false })
     };
     const MILLION: u64 = 1_000_000;
     let once = |name, lent| {
@@ -54,6 +54,12 @@ pub fn rows() -> Vec<(&'static str, Runs)> {
     let preview = |name, ticks| {
         let (name, runs) = row(name, &[command(1, &[0, 2, 0, 0, 2304])], ticks, ticks, false);
         (name, Runs { op: 10, ..runs })
+    };
+    // in second 1,000,005, at 123,456,789 ns
+    let departure = |name, op, fields| {
+        let time = [command(1, &[16_965, 15, 0, 52_501, 1883]), command(2, &[0, 8])];
+        let (name, runs) = row(name, &time, 0, 1, false);
+        (name, Runs { op, fields, ..runs })
     };
     vec![
         row("run line, 10^6 cycles, idle", &[], MILLION, MILLION, false),
@@ -72,6 +78,9 @@ pub fn rows() -> Vec<(&'static str, Runs)> {
         once("run on a lent record, 10^6 cycles, two trains ahead, two adjustments that end", true),
         preview("preview of 1,000 ticks, line of a sheet", 1000),
         preview("preview of 1 tick, line of a sheet", 1),
+        departure("departure time into a field of 0, line of a sheet", 11, [0, 0]),
+        // that departure's field, and a software second two earlier
+        departure("departure time out of a field, line of a sheet", 12, [1_000_003, 5_123_456_789 << 16]),
     ]
 }
 
@@ -142,14 +151,14 @@ impl Runs {
                     unsafe { lendaru_execute(&mut e, c) };
                 }
                 // SAFETY: the record is lent for the call alone.
-                black_box(calls(times, n, black_box(self.most), &e, |e, a| unsafe { lendaru_run(e, a) }));
+                black_box(calls(times, n, black_box(self.fields[0]), &e, |e, a| unsafe { lendaru_run(e, a) }));
             }
             (true, false) => {
                 let mut e = run_tuned::Engine::new();
                 for c in &self.orders {
                     e.execute(c);
                 }
-                black_box(calls(times, n, black_box(self.most), &e, |e, a| tuned_run(e, a)));
+                black_box(calls(times, n, black_box(self.fields[0]), &e, |e, a| tuned_run(e, a)));
             }
         }
     }
@@ -157,7 +166,7 @@ impl Runs {
     /// The sheet is written with all its lines and cut, so that writing it costs the same for every n.
     fn sheet(&self, n: u64) -> Vec<u8> {
         let line = |c: &Command| c.f.iter().fold(c.op.to_string(), |line, v| format!("{line},{v}")) + "\n";
-        let run = line(&command(self.op, &[self.most]));
+        let run = line(&command(self.op, &self.fields));
         let mut s = "op,a,b,c,d,e,f,g,h\n".to_string();
         s.extend(self.orders.iter().map(line));
         s.push_str(&run.repeat(MANY as usize));

@@ -122,7 +122,7 @@ impl Engine {
     }
 
     pub fn execute(&mut self, c: &Command) -> Outcome {
-        if c.op > 10 {
+        if c.op > 12 {
             return refuse(5);
         }
         if !fields_listed(c) {
@@ -155,7 +155,9 @@ impl Engine {
             }
             8 => accept(self.words),
             9 => self.run(c.f[0]),
-            _ => self.preview(c.f[0]),
+            10 => self.preview(c.f[0]),
+            11 => self.depart(c.f[0]),
+            _ => recover(c.f[0], c.f[1]),
         }
     }
 
@@ -212,6 +214,17 @@ impl Engine {
             copy.command(16, 0)
         } else {
             last
+        }
+    }
+
+    /// The time of a departure put into a correctionField, a signed count of 2^-16 ns: all of it but the multiples of
+    /// 16 s.
+    pub fn depart(&self, field: u64) -> Outcome {
+        let low = (self.exact >> 32) % (16 * NS);
+        let sum = i128::from(field as i64) + (low << 16) as i128;
+        match i64::try_from(sum) {
+            Ok(sum) => accept([0, 16, 32, 48, 64].map(|k| if k < 64 { (sum >> k) as u64 % 65536 } else { 0 })),
+            Err(_) => refuse(16),
         }
     }
 
@@ -318,6 +331,24 @@ impl Engine {
     }
 }
 
+/// The time of a departure out of a correctionField and a software second, as sheet 000 has it in 6.13.7.3.2.
+fn recover(software: u64, field: u64) -> Outcome {
+    let field = i128::from(field as i64);
+    if field < 0 {
+        return refuse(17);
+    }
+    let ns = field >> 16;
+    let mut difference = ns / NS as i128 - i128::from(software & 15);
+    if difference < 0 {
+        difference += 16;
+    }
+    let time = (i128::from(software) + difference) as u128 * NS + ns as u128 % NS;
+    if time >= END {
+        return refuse(17);
+    }
+    accept(words_of(time, false))
+}
+
 /// Number 6: every field of the op is in its list, and the fields that the op does not list are 0.
 fn fields_listed(c: &Command) -> bool {
     let f = &c.f;
@@ -341,6 +372,8 @@ fn fields_listed(c: &Command) -> bool {
         6 => (1, f[0] & !0x3F7F == 0),
         9 => (1, (1..=1_000_000).contains(&f[0])),
         10 => (1, (1..=1_000).contains(&f[0])),
+        11 => (1, true),
+        12 => (2, f[0] < 1 << 48),
         _ => (0, true),
     };
     good && f[listed..].iter().all(|&x| x == 0)

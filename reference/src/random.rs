@@ -76,6 +76,29 @@ impl Random {
         }
     }
 
+    /// A correctionField: any, of some departure, about 0 and about the largest.
+    fn field(&mut self) -> u64 {
+        let departure = self.below(16_000_000_000 << 16);
+        match self.below(6) {
+            0 => 0,
+            1 => departure,
+            2 => departure.wrapping_neg(),
+            3 => (1 << 63) - 1 - departure,
+            4 => self.next(),
+            _ => self.hostile(),
+        }
+    }
+
+    /// A software second: any, or about the ends of time.
+    fn second(&mut self) -> u64 {
+        let near = self.below(40);
+        match self.below(3) {
+            0 => near,
+            1 => (1 << 48) - 1 - near,
+            _ => self.hostile(),
+        }
+    }
+
     /// Words of an amount of some nanoseconds, with a count that ticks use up, or only runs.
     fn steering(&mut self) -> [u64; 5] {
         let most = if self.chance(2) { 65_535 } else { self.one_of(&[3, 30, 30, 400, 2000]) };
@@ -109,12 +132,21 @@ impl Random {
     pub fn command(&mut self) -> [u64; 9] {
         let mut c = [0; 9];
         match self.below(100) {
-            0..=39 => {
+            0..=37 => {
                 for i in 1..4 {
                     if self.chance(20) {
                         c[i] = self.below(17);
                     }
                 }
+            }
+            38 => {
+                c[0] = 11;
+                c[1] = self.field();
+            }
+            39 => {
+                c[0] = 12;
+                c[1] = self.second();
+                c[2] = self.field();
             }
             40..=52 => {
                 c[0] = 9;
@@ -170,7 +202,9 @@ impl Random {
     }
 
     /// A command for this engine: a generator is often armed for an instant about the time shown, or within a run from
-    /// it; and for an adjust write whose count would outlast most lists other words are loaded, nearly always.
+    /// it; a departure time is often added to a field that brings the sum to a limit, or taken out of the field of one
+    /// at the time shown; and for an adjust write whose count would outlast most lists other words are loaded, nearly
+    /// always.
     fn command_at(&mut self, e: &Engine) -> Command {
         let mut c = self.command();
         if c[..2] == [2, 2] && e.words[2] % 256 != 0 && self.chance(95) {
@@ -188,6 +222,17 @@ impl Random {
                 // in step with the other, if that is too
                 1 => [c[3], c[4], c[5], c[6]] = [c[3] / 256 * 256 + 256, 256, 0, 1],
                 _ => {}
+            }
+        }
+        if [11, 12].contains(&c[0]) && self.chance(60) {
+            let departure = e.depart(0).values.iter().rev().skip(1).fold(0, |p, w| p << 16 | w);
+            if c[0] == 11 {
+                // the sum is about 2^63, or about 0
+                let sum: u64 = self.one_of(&[1 << 63, 0]);
+                c[1] = sum.wrapping_sub(departure).wrapping_add(self.below(3)).wrapping_sub(1);
+            } else {
+                let seconds = (e.shown() / 256_000_000_000) as u64;
+                (c[1], c[2]) = ((seconds + 2).saturating_sub(self.below(20)), departure);
             }
         }
         let [op, f @ ..] = c;

@@ -1,5 +1,5 @@
-//! What the run lines, the waiting adjustments and the previews of a comparison did, so that one sees that they were
-//! tried.
+//! What the run lines, the waiting adjustments, the previews and the departure times of a comparison did, so that one
+//! sees that they were tried.
 use crate::engine::{Command, Outcome};
 use std::fmt;
 
@@ -71,7 +71,7 @@ impl fmt::Display for Waits {
 
 /// Previews by their answer.
 #[derive(Default)]
-pub struct Previews([u64; 16]);
+pub struct Previews([u64; 18]);
 
 impl Previews {
     pub fn told(&mut self, c: &Command, o: &Outcome) {
@@ -84,5 +84,35 @@ impl fmt::Display for Previews {
         let of = |n: usize| self.0[n];
         write!(f, "previews: {} shown, refused with 6 {}, with 9 {}, ", of(0), of(6), of(9))?;
         write!(f, "with 10 {}, with 11 {}, with 15 {}", of(10), of(11), of(15))
+    }
+}
+
+/// Ops 11 and 12 by what they did.
+#[derive(Default)]
+pub struct Departures {
+    /// into a field that was 0, above it, and negative; and refused with 16
+    into: [u64; 4],
+    /// out of a field: accepted, refused with 17 as negative, or for the seconds
+    out: [u64; 3],
+}
+
+impl Departures {
+    pub fn told(&mut self, c: &Command, o: &Outcome) {
+        let [a, b, ..] = c.f.map(|x| x as i64);
+        match (c.op, o.answer) {
+            (11, 0) => self.into[if a == 0 { 0 } else if a > 0 { 1 } else { 2 }] += 1,
+            (11, 16) => self.into[3] += 1,
+            (12, 0) => self.out[0] += 1,
+            (12, 17) => self.out[if b < 0 { 1 } else { 2 }] += 1,
+            _ => {}
+        }
+    }
+}
+
+impl fmt::Display for Departures {
+    fn fmt(&self, f: &mut fmt::Formatter) -> fmt::Result {
+        let Departures { into: [zero, above, below, left], out: [back, negative, late] } = self;
+        write!(f, "departures: into a field of 0 {zero}, above 0 {above}, negative {below}, refused with 16 {left}; ")?;
+        write!(f, "out of a field {back}, refused with 17 as negative {negative}, for its seconds {late}")
     }
 }

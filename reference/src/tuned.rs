@@ -59,6 +59,23 @@ const fn accept(values: [u64; 5]) -> Outcome {
 
 const DONE: Outcome = accept([0; 5]);
 
+/// The departure time out of a correctionField and a software second.
+#[inline(never)]
+fn recover(f: &[u64; 8]) -> Outcome {
+    let [software, field, ..] = *f;
+    if software > LAST || f[2..].iter().fold(0, |a, &x| a | x) != 0 {
+        return refuse(6);
+    }
+    let ns = field >> 16;
+    let (sec, ns) = (ns / NS, ns % NS);
+    let low = software & 15;
+    let sec = software + sec + if sec < low { 16 } else { 0 } - low;
+    if field >> 63 != 0 || sec > LAST {
+        return refuse(17);
+    }
+    accept(words_of(sec, ns as u32, false).map(u64::from))
+}
+
 fn words_of(sec: u64, ns: u32, rising: bool) -> [u32; 5] {
     [
         sec as u32 & 0xFFFF,
@@ -217,17 +234,23 @@ impl Engine {
         accept([v1, v2, 0, 0, 0])
     }
 
-    /// Ops 9 and 10, and what is no op: by itself, so that the other ops cost what they cost without it.
+    /// Ops 9 to 12, and what is no op: by itself, so that the other ops cost what they cost without it.
     #[inline(never)]
     fn run_line(&mut self, c: &Command) -> Outcome {
-        if c.op > 10 {
+        if c.op > 12 {
             return refuse(5);
+        }
+        if c.op == 12 {
+            return recover(&c.f);
         }
         if c.f[1..].iter().fold(0, |a, &x| a | x) != 0 {
             return refuse(6);
         }
         if c.op == 10 {
             return self.preview(c.f[0]);
+        }
+        if c.op == 11 {
+            return self.depart(c.f[0]);
         }
         self.run(c.f[0])
     }
@@ -270,6 +293,19 @@ impl Engine {
             }
         }
         accept(words_of(sec, (sub >> 32) as u32, false).map(u64::from))
+    }
+
+    /// The low four bits of the seconds and the ns, added to a correctionField.
+    #[inline(never)]
+    fn depart(&self, field: u64) -> Outcome {
+        let low = ((self.sec & 15) * 1_000_000_000 + (self.sub >> 32)) << 16;
+        match (field as i64).checked_add(low as i64) {
+            Some(sum) => {
+                let p = sum as u64;
+                accept([p & 0xFFFF, p >> 16 & 0xFFFF, p >> 32 & 0xFFFF, p >> 48, 0])
+            }
+            None => refuse(16),
+        }
     }
 
     /// Ticks without inputs, at most so many, up to an edge or the end of time.

@@ -24,6 +24,16 @@ fn base_16() {
     run(b"base16_the_same_in_decimal.csv");
 }
 
+// Departure times in correctionFields.
+fn departures() {
+    run(b"departure_below_a_nanosecond.csv");
+    run(b"departure_between_ticks.csv");
+    run(b"departure_every_low_second.csv");
+    run(b"departure_fields_first.csv");
+    run(b"departure_negative_field.csv");
+    run(b"departure_there_and_back.csv");
+}
+
 // The edges of the rules.
 fn edges() {
     run(b"edge_W_255_and_256.csv");
@@ -95,6 +105,8 @@ fn numbers() {
     run(b"number_13.csv");
     run(b"number_14.csv");
     run(b"number_15.csv");
+    run(b"number_16.csv");
+    run(b"number_17.csv");
     run(b"number_order.csv");
 }
 
@@ -205,6 +217,7 @@ fn unreadable_sheet() {
 
 fn main() {
     base_16();
+    departures();
     edges();
     run(b"example_whole.csv");
     almost_base_16();

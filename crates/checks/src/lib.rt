@@ -1,8 +1,9 @@
-// The checks of a command on a valid record, from number 5 on, but for a preview, which makes its own: a function for
-// each that is more than a comparison, and the ordered list, where the first that fails is the answer. Each returns
-// what the model's table says of its number (specs/Checks.antt). Document 01, "Where each command is checked".
+// The checks of ops 0 to 8 on a valid record, from number 6 on; later ops make their own: a function for each that is
+// more than a comparison, and the ordered list, where the first that fails is the answer. Each returns what the model's
+// table says of its number (specs/Checks.antt). Document 01, "Where each command is checked".
 ghost use mathlib.Core.Path.{_≡_};
 ghost use mathlib.Core.Bool.{true, false};
+ghost use Prim.Native.Nat.{_≤_};
 ghost use lib.Dec.{eqb};
 ghost use Rattle.model.specs.Record.{fifo};
 ghost use Rattle.model.specs.Ranges.{valid};
@@ -10,7 +11,6 @@ ghost use Rattle.model.specs.Checks.{readsFifo, writes as writesSpec, passes, a
 ghost use Rattle.checks.specs.First.{firstOf};
 use model::Command;
 use model::Engine;
-use model::OPS;
 use tests::both;
 use tests::either;
 use tests::fails;
@@ -137,14 +137,12 @@ fn time_left(e: Engine, c: Command) -> bool
 // The table, from the top. Numbers 7 to 14 speak of ops 2 and 3, so they are asked of no other.
 pub fn answer(e: Engine, c: Command) -> u64
     requires { ⌜ valid e ≡ true ⌝ }
-    requires { ⌜ eqb (c .op) 10 ≡ false ⌝ }
+    requires { ⌜ c .op ≤ 8 ⌝ }
     ensures { λ r. ⌜ r ≡ answerOf e c ⌝ }
 {
-    let known = c.op < OPS;
     let listed = fields::fields_ok(c);
     let in_time = time_left(e, c);
-    let at5 = first(0, 5, known);
-    let at6 = first(at5, 6, listed);
+    let at6 = first(0, 6, listed);
     if either(c.op < 2, 3 < c.op) {
         return first(at6, 15, in_time);
     }

@@ -6,7 +6,7 @@ use mathlib.Core.Bool.{true, false}
 use native.Mathlib.Omega.{arith}
 use lib.Dec.{eqb}
 use lib.ListN.{getD}
-use borrow.Author.Tests.{eqb-false, eq-eqb, ne-eqb}
+use borrow.Author.Tests.{eqb-false, eq-eqb, ne-eqb, le-ltb}
 use Rattle.model.specs.declared.Engine.{Engine}
 use Rattle.model.specs.declared.Command.{Command}
 use Rattle.model.specs.declared.Outcome.{Outcome}
@@ -28,13 +28,11 @@ use Rattle.change.proofs.Given.{refused-gives, others-still}
 use Rattle.engine.specs.Stepped.{Performing, Stepped}
 
 module _ (e : Engine) (c : Command) where
-  -- an accepted op that is none of 0 to 7, 9 and 10 is the last arm's
+  -- an op that is none of 0 to 7 is the last arm's
   pub last-op : Performing e c → NoneOf 1 7 (c .op) → c .op ≡ 8
   last-op start none =
       let some = eqb-false (c .op) 0 (start .noTick) in
-      let other = eqb-false (c .op) 9 (start .noRun) in
-      let another = eqb-false (c .op) 10 (start .noPreview) in
-      let known = accepted-facts e c (start .passed) .op in
+      let few = start .few in
       let past = past-arms 1 7 (c .op) (omega arith) none in
       omega arith
 
@@ -78,6 +76,13 @@ module _ (e : Engine) (c : Command) where
         is = λ i. record { answer = answer i; values = values i; engine = settled i };
         keeps = ap valid settled ∙ execute-valid e c v;
       }
+
+  -- an op above 12 is refused with 5
+  pub unknown-gives : valid e ≡ true → 12 < c .op → Gives e c (execute e c) (changeTo 5 noWords e false)
+  unfolding execute answerOf checks
+  unknown-gives v h =
+      let none = le-ltb (c .op) 13 (omega arith) in
+      refused-gives e c 5 _ (rw (v, none) refl) (rw (v, none) refl)
 
   pub malformed : valid e ≡ false → refused e 4 ≡ execute e c
   unfolding execute answerOf checks

@@ -1,5 +1,6 @@
--- An accepted command that is no tick, run or preview; and one command on a valid record: the model's outcome, with a
+-- An accepted command of ops 1 to 8; and one command on a valid record: the model's outcome, with a
 -- record that is valid again.
+use Prim.Native.Nat.{_≤_}
 use mathlib.Core.Path.{_≡_}
 use mathlib.Core.Bool.{true, false}
 use lib.Dec.{eqb}
@@ -13,8 +14,7 @@ use Rattle.model.specs.Execute.{execute}
 pub record Performing (e : Engine) (c : Command) : Type 0 where
   pub passed : answerOf e c ≡ 0
   pub noTick : eqb (c .op) 0 ≡ false
-  pub noRun : eqb (c .op) 9 ≡ false
-  pub noPreview : eqb (c .op) 10 ≡ false
+  pub few : c .op ≤ 8
 
 pub record Stepped (e : Engine) (c : Command) (r : Outcome) : Type 0 where
   pub is : r ≡ execute e c

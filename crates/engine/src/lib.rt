@@ -3,6 +3,7 @@
 // command. Document 01, "Command sheet" and "Where each command is checked".
 ghost use mathlib.Core.Path.{_≡_};
 ghost use mathlib.Core.Bool.{true, false};
+ghost use Prim.Native.Nat.{_<_};
 ghost use lib.Dec.{eqb};
 ghost use Rattle.model.specs.Record.{powerOn};
 ghost use Rattle.model.specs.Outcome.{refused as refusedSpec};
@@ -47,7 +48,7 @@ pub fn power_on() -> Engine
     }
 }
 
-// An accepted command that is no tick, run or preview, by its op.
+// An accepted command of ops 1 to 8, by its op.
 fn perform(e: Engine, c: Command) -> Change
     requires { ⌜ Performing e c ⌝ }
     ensures { λ r. ⌜ Gives e c (performed e c) r ⌝ }
@@ -65,18 +66,30 @@ fn perform(e: Engine, c: Command) -> Change
     }
 }
 
-// A command that is no tick, on a valid record: a refusal changes nothing. A run and a preview make their own checks,
-// as a tick does.
+// Ops 9 to 12 make their own checks, as a tick does; no op is above them, number 5.
+fn later_op(e: Engine, c: Command) -> Change
+    requires { ⌜ valid e ≡ true ⌝ }
+    requires { ⌜ 8 < c .op ⌝ }
+    ensures { λ r. ⌜ Gives e c (executeSpec e c) r ⌝ }
+{
+    let op = c.op;
+    match op {
+        9 => run::run(e, c),
+        10 => preview::preview(e, c),
+        11 => departure::depart(e, c),
+        12 => departure::recover(e, c),
+        _ => change_to(5, words::no_words(), e, false),
+    }
+}
+
+// A command that is no tick, on a valid record: a refusal changes nothing.
 pub fn other(e: Engine, c: Command) -> Change
     requires { ⌜ valid e ≡ true ⌝ }
     requires { ⌜ eqb (c .op) 0 ≡ false ⌝ }
     ensures { λ r. ⌜ Gives e c (executeSpec e c) r ⌝ }
 {
-    if c.op == 9 {
-        return run::run(e, c);
-    }
-    if c.op == 10 {
-        return preview::preview(e, c);
+    if 8 < c.op {
+        return later_op(e, c);
     }
     let answer = checks::answer(e, c);
     if answer == 0 {

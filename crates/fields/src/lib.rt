@@ -1,11 +1,13 @@
 // The field lists: number 6. One function for each op's list, and one choice among them. Each returns a definition
 // of the model's specs/Fields.antt. Document 01, "Command sheet": unlisted fields must be 0; op 9, document
-// 02, A.1; op 10, A.5.
+// 02, A.1; op 10, A.5; ops 11 and 12, A.7.
+ghost use Prim.Native.Nat.{_^_};
 ghost use mathlib.Core.Path.{_≡_};
+ghost use lib.Dec.{ltb};
 ghost use Rattle.model.specs.Tests.{every};
 ghost use Rattle.model.specs.Fields.{zeroFromF, zeroFromD, zeroFromB, isGenerator, tickFields, loadFields};
 ghost use Rattle.model.specs.Fields.{commandFields, armFields, stopFields, maskFields, noFields};
-ghost use Rattle.model.specs.Fields.{ticksFields, runFields, previewFields, fieldsOk};
+ghost use Rattle.model.specs.Fields.{ticksFields, runFields, previewFields, departFields, recoverFields, fieldsOk};
 use model::Command;
 use model::ENABLED_MASK;
 use model::LONG_LIMIT;
@@ -128,6 +130,30 @@ pub fn preview_fields(c: Command) -> bool
     ticks_fields(c, 1_000)
 }
 
+// A correctionField has 64 bits, as every number of a command here.
+fn is_field(n: u64) -> bool
+    ensures { λ r. ⌜ r ≡ ltb n (2 ^ 64) ⌝ }
+{
+    true
+}
+
+// Op 11: the field.
+pub fn depart_fields(c: Command) -> bool
+    ensures { λ r. ⌜ r ≡ every (departFields c) ⌝ }
+{
+    both(is_field(c.a), zero_from_b(c))
+}
+
+// Op 12: software seconds, and the field.
+pub fn recover_fields(c: Command) -> bool
+    ensures { λ r. ⌜ r ≡ every (recoverFields c) ⌝ }
+{
+    both(
+        c.a < SECONDS_LIMIT,
+        both(is_field(c.b), both(c.c == 0, zero_from_d(c))),
+    )
+}
+
 // The list of the command's op.
 pub fn fields_ok(c: Command) -> bool
     ensures { λ r. ⌜ r ≡ fieldsOk c ⌝ }
@@ -145,6 +171,8 @@ pub fn fields_ok(c: Command) -> bool
         8 => no_fields(c),
         9 => run_fields(c),
         10 => preview_fields(c),
+        11 => depart_fields(c),
+        12 => recover_fields(c),
         _ => no_fields(c),
     }
 }

@@ -5,7 +5,7 @@ ghost use Rattle.model.specs.Sheet.{sheetVersion};
 ghost use Rattle.model.specs.Results.{resultsRoom};
 ghost use Rattle.runner.specs.Ran.{Ran};
 
-const SHEET_VERSION: u64 = 4;
+const SHEET_VERSION: u64 = 5;
 
 const RESULTS_ROOM: usize = 138309;
 

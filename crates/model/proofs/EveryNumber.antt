@@ -5,6 +5,7 @@ use Rattle.model.specs.declared.Command.{Command}
 use Rattle.model.specs.Sentences.{Sentences}
 use Rattle.model.proofs.Laws.FailedRows as Law
 use Rattle.model.proofs.Laws.LastSecond.{number-15}
+use Rattle.model.proofs.Laws.FieldChecks.{number-16, number-17}
 
 pub every-number : (e : Engine) (c : Command) → Sentences e c
 every-number e c = record {
@@ -19,4 +20,6 @@ every-number e c = record {
   number13 = Law.number-13 e c;
   number14 = Law.number-14 e c;
   number15 = number-15 e c;
+  number16 = number-16 e c;
+  number17 = number-17 e c;
 }

@@ -1,7 +1,7 @@
 -- The examples, as one list proved by one statement: the starred ones of document 01, each cell of its tables of words,
--- run lines, adjustments in succession, previews, timestamps, the limits of records and fields, and values in base 16.
--- Each holds because the definitions compute: a run from power-on gives the numbers that the papers state or that were
--- worked out from them.
+-- run lines, adjustments in succession, previews, departure times, timestamps, the limits of records and fields, and
+-- values in base 16. Each holds because the definitions compute: a run from power-on gives the numbers that the papers
+-- state or that were worked out from them.
 use Prim.Native.Nat.{ℕ}
 use mathlib.Core.Path.{_≡_, refl}
 use mathlib.Core.List.{List, [], _∷_, _++_, map}
@@ -18,6 +18,7 @@ use Rattle.model.specs.Tick
 use Rattle.model.specs.RunLine
 use Rattle.model.specs.OtherOps
 use Rattle.model.specs.Preview
+use Rattle.model.specs.Departure
 use Rattle.model.specs.Ops
 use Rattle.model.specs.Ranges
 use Rattle.model.specs.Fields
@@ -35,6 +36,7 @@ use Rattle.model.proofs.Examples.Cells.{timeCell, amountCell, countCell
 use Rattle.model.proofs.Examples.RunsOfTicks.{runLines}
 use Rattle.model.proofs.Examples.Adjustments.{adjustments}
 use Rattle.model.proofs.Examples.Previews.{previews}
+use Rattle.model.proofs.Examples.Departures.{departures}
 use Rattle.model.proofs.Examples.Rounding.{timestamps}
 use Rattle.model.proofs.Examples.RecordLimits.{recordLimits, answersOn}
 use Rattle.model.proofs.Examples.FieldLimits.{fieldLimits, answersTo}
@@ -46,6 +48,7 @@ pub mod Cells
 pub mod RunsOfTicks
 pub mod Adjustments
 pub mod Previews
+pub mod Departures
 pub mod Rounding
 pub mod RecordLimits
 pub mod FieldLimits
@@ -53,7 +56,8 @@ pub mod Writings
 
 pub examples : List Example
 examples =
-    starred ++ cells ++ runLines ++ adjustments ++ previews ++ timestamps ++ recordLimits ++ fieldLimits ++ writings
+    starred ++ cells ++ runLines ++ adjustments ++ previews ++ departures ++ timestamps ++ recordLimits ++ fieldLimits
+    ++ writings
 
 -- two lists of numbers are compared number by number, so that a list that is not as stated fails at once
 same : List ℕ → List ℕ → Bool
@@ -84,8 +88,8 @@ stated-equal (x ∷ xs) h =
     rw (same-equal (x .found) (x .stated) (t .0), stated-equal xs (t .1))
 
 examples-tested : asStated examples ≡ true
-unfolding examples starred cells runLines adjustments previews timestamps recordLimits fieldLimits writings told toldOf
-    answersOn answersTo
+unfolding examples starred cells runLines adjustments previews departures timestamps recordLimits fieldLimits writings
+    told toldOf answersOn answersTo
     timeCell amountCell countCell refusedCell asStated same answers lastValues values shownAfter edgeAt edgesFrom
     verdict engineBy historyBy Words.secondsIn Words.nanosecondsIn Words.aboveNanoseconds Words.wholeIn Words.fracIn
     Words.amountIn Words.belowFrac Words.countIn Words.timeWords Clock.cycleAmount Clock.stepBy Clock.remainderBy
@@ -98,7 +102,8 @@ unfolding examples starred cells runLines adjustments previews timestamps record
     Ranges.interruptsOk Ranges.wordsOk Ranges.valid Fields.fieldTests Fields.fieldsOk Checks.checks Checks.answerOf
     Tick.tickEvents Tick.tickEngine Tick.tickValues Tick.ticks Tick.inTimeFor RunLine.hasEnded RunLine.oneMore
     RunLine.run RunLine.ran OtherOps.written OtherOps.readWords OtherOps.readEngine OtherOps.commanded
-    OtherOps.interruptsRead OtherOps.statusOf Preview.previewed Ops.performed Execute.execute Text.isNumber
+    OtherOps.interruptsRead OtherOps.statusOf Preview.previewed Departure.departed Departure.recovered
+    Departure.staysSigned Departure.isTime Ops.performed Execute.execute Text.isNumber
     Text.isValue Text.numberOf Forms.readsLine Forms.rowIn Forms.headVerdict Forms.verdictOf Sheet.commandSheet
     Sheet.commandsIn Text.valueOf Text.decimal Text.base16
     Results.results

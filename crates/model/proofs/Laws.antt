@@ -12,18 +12,20 @@ pub mod InRange
 pub mod Listed
 -- the parts
 pub mod WordFields
+pub mod Signed
 pub mod ExactTime
 pub mod FifoPlaces
 pub mod Generated
 pub mod Bits
 -- the whole: what an accepted command has passed, that a valid record stays valid, ticks, outcomes, timestamps; number
--- 11 as it was, what the waiting adjustment does, and a preview
+-- 11 as it was, what the waiting adjustment does, a preview, and departure times
 pub mod Accepting
 pub mod Parts
 pub mod Latching
 pub mod TickRange
 pub mod RunTicks
 pub mod Valid
+pub mod Departures
 pub mod Ticks
 pub mod Outcomes
 pub mod FailedRows
@@ -31,6 +33,8 @@ pub mod NeverBack
 pub mod NeverWaited
 pub mod Waiting
 pub mod Rehearsal
+pub mod FieldChecks
+pub mod Recovered
 -- ticks by formula: the clock and the steering, the record, and both whatever the generators do; a run line by
 -- `execute` alone
 pub mod Cycles

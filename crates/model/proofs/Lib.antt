@@ -8,6 +8,7 @@ pub mod Timestamps
 pub mod EighthIsFloor
 pub mod WaitingAdjustment
 pub mod PreviewIsRehearsal
+pub mod DepartureTime
 pub mod BeforeWaiting
 pub mod Sheets
 pub mod EitherWriting

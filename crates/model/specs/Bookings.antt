@@ -1,5 +1,5 @@
 -- How the ledger is told a command: its fields, its answer and its five values, and nothing else. Document 01, "The
--- ledger of demand 3"; of op 9, document 02, A.1; op 10 changes nothing, A.5.
+-- ledger of demand 3"; of op 9, document 02, A.1; ops 10 to 12 change nothing, A.5 and A.7.
 use Prim.Native.Nat.{ℕ, _+_, _*_, _-_, _^_}
 use mathlib.Core.List.{List, [], _∷_}
 use mathlib.Core.Bool.{cond}
@@ -71,6 +71,8 @@ bookings =
     ∷ unbooked
     ∷ unbooked
     ∷ ticksBooked
+    ∷ unbooked
+    ∷ unbooked
     ∷ unbooked
     ∷ []
 

@@ -1,6 +1,6 @@
 -- The table of document 01, "Where each command is checked": checks run from the top, and the first that fails is the
 -- answer. Number 11 is document 02's, A.4: the waiting place is taken. Op 10 has the checks of what it does on its copy
--- (A.5): 9 to 11 as an adjust write, and 15 where one of its ticks would get it.
+-- (A.5): 9 to 11 as an adjust write, and 15 where one of its ticks would get it. Numbers 16 and 17 are A.7's.
 use Prim.Native.Nat.{ℕ, _+_, _*_, _-_, _<_, _≤_}
 use mathlib.Core.Path.{_≡_}
 use mathlib.Core.List.{List, [], _∷_, map}
@@ -18,6 +18,7 @@ use Rattle.model.specs.Generator.{isRunning}
 use Rattle.model.specs.Record.{fifo, generator}
 use Rattle.model.specs.Tick.{endsInTime, inTimeFor}
 use Rattle.model.specs.OtherOps.{adjustWritten}
+use Rattle.model.specs.Departure.{staysSigned, isTime}
 use Rattle.model.specs.Ops.{ops}
 use Rattle.model.specs.Ranges.{valid}
 use Rattle.model.specs.Fields.{fieldsOk}
@@ -85,6 +86,8 @@ laterRows =
     ∷ row 13 (isOp 3) (λ e c. not (isRunning (generator e (c .a))))
     ∷ row 14 (isOp 3) (λ e c. leb (shown (e .clock)) ((c .b * nsPerSecond + c .c) * 256))
     ∷ row 15 isTicking (λ e c. inTime (isOp 10 c) e (c .a))
+    ∷ row 16 (isOp 11) (λ e c. staysSigned (e .clock) (c .a))
+    ∷ row 17 (isOp 12) (λ e c. isTime (c .a) (c .b))
     ∷ []
 
 abbrev pub table : List Row

@@ -1,5 +1,5 @@
--- The field lists: number 6. Document 01, "Command sheet"; op 9, document 02, A.1; op 10, A.5. Unlisted fields must be
--- 0.
+-- The field lists: number 6. Document 01, "Command sheet"; op 9, document 02, A.1; op 10, A.5; ops 11 and 12, A.7.
+-- Unlisted fields must be 0.
 use Prim.Native.Nat.{ℕ, _^_}
 use mathlib.Core.List.{List, [], _∷_}
 use mathlib.Core.Bool.{Bool, _||_}
@@ -76,12 +76,22 @@ runFields = ticksFields 1000000
 abbrev pub previewFields : Command → List Bool
 previewFields = ticksFields 1000
 
+-- op 11: a correctionField, 64 bits
+abbrev pub departFields : Command → List Bool
+departFields c = ltb (c .a) (2 ^ 64) ∷ zeroFromB c
+
+-- op 12: software seconds, and a correctionField
+abbrev pub recoverFields : Command → List Bool
+recoverFields c = secondsOk (c .a) ∷ ltb (c .b) (2 ^ 64) ∷ eqb (c .c) 0 ∷ zeroFromD c
+
 -- the list of each op, by its number
 abbrev pub fieldLists : List (Command → List Bool)
 fieldLists =
     tickFields ∷ loadFields ∷ commandFields ∷ armFields ∷ stopFields ∷ noFields ∷ maskFields ∷ noFields ∷ noFields
     ∷ runFields
     ∷ previewFields
+    ∷ departFields
+    ∷ recoverFields
     ∷ []
 
 unfoldable pub fieldTests : Command → List Bool

@@ -20,8 +20,8 @@ pub mod Edges
 pub mod Fifo
 pub mod Generator
 pub mod Interrupts
--- the whole: the record, and what each op does: a tick, a run of ticks and its formula, the others, a preview, the
--- table of ops
+-- the whole: the record, and what each op does: a tick, a run of ticks and its formula, the others, a preview,
+-- departure times, the table of ops
 pub mod Record
 pub mod Outcome
 pub mod Tick
@@ -29,6 +29,7 @@ pub mod RunLine
 pub mod Elapse
 pub mod OtherOps
 pub mod Preview
+pub mod Departure
 pub mod Ops
 -- the record's ranges (number 4), the field lists (number 6), the table of checks; the checks, then the op; a run, and
 -- the timestamps in it; for theorems, each number by its sentence, the eighth by its old formula and number 11 as it

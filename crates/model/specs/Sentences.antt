@@ -1,5 +1,5 @@
 -- Each number from 5 on by its sentence, in plain arithmetic on fields, words and totals: document 01, "Where each
--- command is checked", beside which this is to be read, and document 02, A.1, A.4 and A.5. No test of the table of
+-- command is checked", beside which this is to be read, and document 02, A.1, A.4, A.5 and A.7. No test of the table of
 -- checks is in it; that the table says the same is a theorem, EveryNumber.antt of proofs/.
 use Prim.Native.Nat.{ℕ, _+_, _*_, _-_, _/_, _%_, _^_, _≤_, _<_, min}
 use mathlib.Core.Path.{_≡_}
@@ -57,7 +57,8 @@ pub record Arms (c : Command) : Type 0 where
   pub count : (1 ≤ c .g) × (c .g < 2 ^ 32)
   pub mark : c .h ≤ 1
 
--- every field is in the list of its op. Document 01, "Command sheet"; op 9, document 02, A.1; op 10, A.5
+-- every field is in the list of its op. Document 01, "Command sheet"; op 9, document 02, A.1; op 10, A.5; ops 11 and
+-- 12, A.7
 pub record Listed (c : Command) : Type 0 where
   pub tick : c .op ≡ 0 → Codes c × ZeroFromD c
   pub load : c .op ≡ 1
@@ -72,6 +73,8 @@ pub record Listed (c : Command) : Type 0 where
   pub show : c .op ≡ 8 → (c .a ≡ 0) × ZeroFromB c
   pub run : c .op ≡ 9 → (1 ≤ c .a) × (c .a ≤ 1000000) × ZeroFromB c
   pub preview : c .op ≡ 10 → (1 ≤ c .a) × (c .a ≤ 1000) × ZeroFromB c
+  pub depart : c .op ≡ 11 → (c .a < 2 ^ 64) × ZeroFromB c
+  pub recover : c .op ≡ 12 → (c .a < 2 ^ 48) × (c .b < 2 ^ 64) × (c .c ≡ 0) × ZeroFromD c
 
 -- the end of the last second, in 2^-32 ns
 abbrev pub endExact : ℕ
@@ -92,9 +95,21 @@ addedBehind s w n =
     let amount = w .w5 * 2 ^ 24 + w .w4 * 2 ^ 8 + w .w3 / 2 ^ 8 in
     min n cycles * s .adjustment .amount + (min (n - cycles) count * amount + (n - cycles - count) * s .period)
 
+-- op 11: a field that is not negative reaches 2^63 with the departure time, in 2^-16 ns; a negative one cannot
+abbrev pub LeavesSigned : Engine → ℕ → Type 0
+LeavesSigned e field =
+    (field < 2 ^ 63)
+    × (2 ^ 63 ≤ field + (e .clock .seconds % 16 * nsPerSecond + e .clock .nanoseconds) * 65536)
+
+-- op 12: a with the field's seconds in the place of its low four bits, or with 16 more where these are below them
+abbrev pub ReachesEnd : (a seconds : ℕ) → Type 0
+ReachesEnd a seconds =
+    ((a % 16 ≤ seconds) × (2 ^ 48 ≤ a / 16 * 16 + seconds))
+    ⊎ ((seconds < a % 16) × (2 ^ 48 ≤ a / 16 * 16 + 16 + seconds))
+
 pub record Sentences (e : Engine) (c : Command) : Type 0 where
-  -- line: 5 op not 0 to 8 (0 to 10, with A.1 and A.5); 6 a field outside its list
-  pub number5 : Comes 5 e c (10 < c .op)
+  -- line: 5 op not 0 to 8 (0 to 12, with A.1, A.5 and A.7); 6 a field outside its list
+  pub number5 : Comes 5 e c (12 < c .op)
   pub number6 : Comes 6 e c (Listed c → ⊥)
   -- op 2, read: 7 stamp store empty
   pub number7 : Comes 7 e c (
@@ -124,3 +139,6 @@ pub record Sentences (e : Engine) (c : Command) : Type 0 where
       (((c .op ≡ 0) ⊎ (c .op ≡ 9)) × NextIsLate e)
       ⊎ ((c .op ≡ 10) × (endExact ≤ exact (e .clock) + addedBehind (e .steering) (e .words) (c .a)))
       )
+  -- A.7: 16 on op 11 if the sum leaves 64 signed bits; 17 on op 12 if the field is negative or the seconds reach 2^48
+  pub number16 : Comes 16 e c ((c .op ≡ 11) × LeavesSigned e (c .a))
+  pub number17 : Comes 17 e c ((c .op ≡ 12) × ((2 ^ 63 ≤ c .b) ⊎ ReachesEnd (c .a) (c .b / 65536 / nsPerSecond)))

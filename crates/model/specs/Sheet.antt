@@ -13,10 +13,10 @@ use Rattle.model.specs.Text.{bytes, row}
 use Rattle.model.specs.Forms.{Form, decimalValue, eitherValue, WritesSheet, readsLine, rowIn, rowsOf, rowsIn}
 use Rattle.model.specs.Forms.{linesVerdict, verdictOf}
 
--- the version of the sheet format: 1 is document 01's, 2 has run lines, 3 previews, 4 values in base 16 (document 02,
--- A.1, A.5 and A.6). A change of what a sheet may say counts it on
+-- the version of the sheet format: 1 is document 01's, 2 has run lines, 3 previews, 4 values in base 16, 5 departure
+-- times (document 02, A.1, A.5, A.6 and A.7). A change of what a sheet may say counts it on
 abbrev pub sheetVersion : ℕ
-sheetVersion = 4
+sheetVersion = 5
 
 -- `op,a,b,c,d,e,f,g,h` and its line end, then lines of nine values
 abbrev pub firstLine : List ℕ

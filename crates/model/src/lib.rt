@@ -11,9 +11,6 @@ pub const NS_PER_SECOND: u64 = 1_000_000_000;
 // The 2^-32 ns in 1/256 ns: an amount over it makes a step.
 pub const STEP_UNIT: u64 = 0x100_0000;
 
-// How many ops there are: the rows of the table of ops.
-pub const OPS: u64 = 11;
-
 // Words are below 2^16; N, D and counts of edges below 2^32.
 pub const WORD_LIMIT: u64 = 0x1_0000;
 

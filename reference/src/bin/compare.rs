@@ -4,7 +4,7 @@
 //!     compare [COMMANDS [SEED]]
 use reference::ledger::Ledger;
 use reference::random::Random;
-use reference::tally::{Previews, Runs, Waits};
+use reference::tally::{Departures, Previews, Runs, Waits};
 use reference::{sheet, tuned_sheet};
 use std::sync::atomic::{AtomicU64, Ordering};
 
@@ -31,15 +31,16 @@ fn main() {
     let seed = args.get(1).copied().unwrap_or(1);
     // SAFETY: they take nothing.
     let (version, room) = unsafe { (lendaru_sheet_version(), lendaru_results_room()) };
-    assert_eq!(version, 4);
+    assert_eq!(version, 5);
     std::panic::set_hook(Box::new(|why| {
         eprintln!("{why}\nTo see it again: compare 1 {}", SEED.load(Ordering::Relaxed));
     }));
     let mut random = Random(seed);
     let mut out = vec![0; room + 16];
     let (mut told, mut text) = (Vec::new(), Vec::new());
-    let mut answers = [0u64; 16];
+    let mut answers = [0u64; 18];
     let (mut runs, mut waits, mut previews) = (Runs::default(), Waits::default(), Previews::default());
+    let mut departures = Departures::default();
     let (mut commands, mut sheets) = (0u64, 0u64);
     while commands < most {
         SEED.store(random.0, Ordering::Relaxed);
@@ -52,6 +53,7 @@ fn main() {
             answers[o.answer as usize] += 1;
             runs.told(c, o);
             previews.told(c, o);
+            departures.told(c, o);
             waits.told(c, o, before, e.adjustments());
             before = e.adjustments();
             commands += 1;
@@ -71,8 +73,9 @@ fn main() {
         sheets += 1;
     }
     println!("{commands} commands in {sheets} sheets, seed {seed}: every byte equal, the ledger agrees");
-    println!("answers 0 to 15: {answers:?}");
+    println!("answers 0 to 17: {answers:?}");
     println!("{runs}");
     println!("{waits}");
     println!("{previews}");
+    println!("{departures}");
 }

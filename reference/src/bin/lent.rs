@@ -6,7 +6,7 @@
 use reference::engine::{Command, Engine, Outcome};
 use reference::random::Random;
 use reference::record::{Adjustment, Record, CONDITIONS, NUMBERS};
-use reference::tally::{Previews, Runs, Waits};
+use reference::tally::{Departures, Previews, Runs, Waits};
 use std::sync::atomic::{AtomicU64, Ordering};
 
 /// The seed from which the present engine's life is made.
@@ -28,10 +28,11 @@ struct Counts {
     commands: u64,
     malformed: u64,
     valid: u64,
-    answers: [u64; 16],
+    answers: [u64; 18],
     runs: Runs,
     waits: Waits,
     previews: Previews,
+    departures: Departures,
     /// calls of `lendaru_run`
     called: u64,
     /// malformed records by the condition of number 4 that they meet, where they meet only one
@@ -143,6 +144,7 @@ fn live(random: &mut Random, counts: &mut Counts) {
             counts.answers[expected.answer as usize] += 1;
             counts.runs.told(&c, &expected);
             counts.previews.told(&c, &expected);
+            counts.departures.told(&c, &expected);
             counts.waits.told(&c, &expected, before, engine.adjustments());
         }
     }
@@ -163,12 +165,13 @@ fn main() {
         live(&mut random, &mut counts);
         lives += 1;
     }
-    let Counts { commands, malformed, valid, answers, runs, waits, previews, called, faults } = counts;
+    let Counts { commands, malformed, valid, answers, runs, waits, previews, departures, called, faults } = counts;
     println!("{commands} commands on {lives} lent records, seed {seed}: every reply and every record equal");
     println!("damaged before a command: {malformed} malformed, {valid} still valid");
-    println!("answers 0 to 15: {answers:?}");
+    println!("answers 0 to 17: {answers:?}");
     println!("{runs}; by lendaru_run {called}, malformed records included");
     println!("{waits}");
     println!("{previews}");
+    println!("{departures}");
     println!("malformed by one condition of number 4 alone, in its order: {faults:?}");
 }

@@ -11,7 +11,7 @@ pub fields-ok-spec : {M : Type 1} → statement M
 fields-ok-spec =
     tie.close
     (tie.spec (search needs) (search needs) (search needs) (search needs) (search needs) (search needs) (search needs)
-    (search needs) (search needs) (search needs) (search needs) (search needs)
+    (search needs) (search needs) (search needs) (search needs) (search needs) (search needs) (search needs)
     (λ c. c .tick-fields .ensures ∙ fields-of _ 0 (c .before .match .keys1))
     (λ c. c .load-fields .ensures ∙ fields-of _ 1 (c .before .match .keys2))
     (λ c. c .command-fields .ensures ∙ fields-of _ 2 (c .before .match .keys3))
@@ -23,4 +23,6 @@ fields-ok-spec =
     (λ c. c .no-fields3 .ensures ∙ fields-of _ 8 (c .before .match .keys9))
     (λ c. c .run-fields .ensures ∙ fields-of _ 9 (c .before .match .keys10))
     (λ c. c .preview-fields .ensures ∙ fields-of _ 10 (c .before .match .keys11))
-    (λ c. c .no-fields4 .ensures ∙ fields-past _ (past-arms 0 11 _ (omega arith) (c .before .match .rest))))
+    (λ c. c .depart-fields .ensures ∙ fields-of _ 11 (c .before .match .keys12))
+    (λ c. c .recover-fields .ensures ∙ fields-of _ 12 (c .before .match .keys13))
+    (λ c. c .no-fields4 .ensures ∙ fields-past _ (past-arms 0 13 _ (omega arith) (c .before .match .rest))))

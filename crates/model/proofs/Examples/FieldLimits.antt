@@ -1,7 +1,7 @@
 -- Number 6: of every op each field at its limits and one step beyond them, and each field that is not listed. What is
 -- told is the answer at power-on, where some ops get another number, and of a run at the end of time, 15. Document 01,
--- "Command sheet"; op 9, document 02, A.1; op 10, A.5.
-use Prim.Native.Nat.{ℕ, _-_, _^_}
+-- "Command sheet"; op 9, document 02, A.1; op 10, A.5; ops 11 and 12, A.7.
+use Prim.Native.Nat.{ℕ, _*_, _-_, _^_}
 use mathlib.Core.List.{List, [], _∷_, _++_, map}
 use Rattle.model.specs.declared.Engine.{Engine}
 use Rattle.model.specs.declared.Command.{Command}
@@ -114,4 +114,16 @@ fieldLimits =
     ∷ command 10 1001 0 0 0 0 0 0 0
     ∷ unlisted 10 1
     ) (9 ∷ 9 ∷ 6 ∷ 6 ∷ sevenSixes)
+    -- op 11: a field of 64 bits
+    ∷ toEach (
+    command 11 0 0 0 0 0 0 0 0 ∷ command 11 (2 ^ 64 - 1) 0 0 0 0 0 0 0 ∷ command 11 (2 ^ 64) 0 0 0 0 0 0 0
+    ∷ unlisted 11 0
+    ) (0 ∷ 0 ∷ 6 ∷ sevenSixes)
+    -- op 12: seconds of 48 bits, a field of 64; one with its top bit is negative, 17
+    ∷ toEach (
+    command 12 (2 ^ 48 - 1) (15 * nsPerSecond * 2 ^ 16) 0 0 0 0 0 0 ∷ command 12 0 (2 ^ 64 - 1) 0 0 0 0 0 0
+    ∷ command 12 (2 ^ 48) 0 0 0 0 0 0 0 ∷ command 12 0 (2 ^ 64) 0 0 0 0 0 0
+    ∷ command 12 0 0 1 0 0 0 0 0 ∷ command 12 0 0 0 1 0 0 0 0 ∷ command 12 0 0 0 0 1 0 0 0
+    ∷ fromF 12
+    ) (0 ∷ 17 ∷ 6 ∷ 6 ∷ 6 ∷ 6 ∷ 6 ∷ 6 ∷ 6 ∷ 6 ∷ [])
     ∷ []

@@ -97,12 +97,12 @@ starred =
     -- Empty sheet: 2. First line alone: accepted.
     ∷ record { found = verdict []; stated = 1 ∷ 2 ∷ [] }
     ∷ record { found = verdict (bytes "op,a,b,c,d,e,f,g,h\n"); stated = 0 ∷ 0 ∷ [] }
-    -- Not starred: the ops are 0 to 10, and the table of checks ends with 15.
-    ∷ record { found = length ops ∷ lastNumber ∷ []; stated = 11 ∷ 15 ∷ [] }
-    ∷ record { found = answers (line 9 1 0 0 0 0 ∷ line 11 1 0 0 0 0 ∷ []); stated = 0 ∷ 5 ∷ [] }
-    -- Not starred: the versions of the sheet format (run lines and previews counted it on) and of the record (the
-    -- waiting adjustment did).
-    ∷ record { found = sheetVersion ∷ recordVersion ∷ []; stated = 4 ∷ 2 ∷ [] }
+    -- Not starred: the ops are 0 to 12, and the table of checks ends with 17.
+    ∷ record { found = length ops ∷ lastNumber ∷ []; stated = 13 ∷ 17 ∷ [] }
+    ∷ record { found = answers (line 9 1 0 0 0 0 ∷ line 13 1 0 0 0 0 ∷ []); stated = 0 ∷ 5 ∷ [] }
+    -- Not starred: the versions of the sheet format (run lines, previews, base 16 and departure times counted it on)
+    -- and of the record (the waiting adjustment did).
+    ∷ record { found = sheetVersion ∷ recordVersion ∷ []; stated = 5 ∷ 2 ∷ [] }
     -- Not starred: each input has its FIFO and its selector (eighths 1, 3 and 5 of 8 ns).
     ∷ record {
       found =

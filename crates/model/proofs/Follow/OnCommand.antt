@@ -1,5 +1,5 @@
--- Every command keeps the agreement: a refusal changes neither side, ops 5 to 8 and 10 change nothing that the ledger
--- knows of, and the other ops do to the record what their entry does to the ledger.
+-- Every command keeps the agreement: a refusal changes neither side, ops 5 to 8 and 10 to 12 change nothing that the
+-- ledger knows of, and the other ops do to the record what their entry does to the ledger.
 use Prim.Native.Nat.{ℕ}
 use mathlib.Core.Path.{_≡_}
 use mathlib.Core.Bool.{true}
@@ -10,6 +10,7 @@ use Rattle.model.specs.declared.Outcome.{Outcome}
 use Rattle.model.specs.Outcome.{refused}
 use Rattle.model.specs.OtherOps.{interruptsRead}
 use Rattle.model.specs.Preview.{previewed}
+use Rattle.model.specs.Departure.{departed, recovered}
 use Rattle.model.specs.Ranges.{valid}
 use Rattle.model.specs.Execute.{execute}
 use Rattle.model.specs.Ledger.{Ledger}
@@ -28,7 +29,7 @@ refusal-agrees e l c n z h = rw (ne-eqb n 0 z) h
 
 pub execute-agrees : (e : Engine) (l : Ledger) (c : Command) → valid e ≡ true → Agrees e l
     → Agrees (execute e c .engine) (after l c (execute e c))
-unfolding told booked interruptsRead previewed
+unfolding told booked interruptsRead previewed departed recovered
 execute-agrees e l c v h =
     by-answer Good e c
     (λ n. refusal-agrees e l c _ n h)
@@ -45,6 +46,8 @@ execute-agrees e l c v h =
       show = λ o. rw o h;
       run = op-9-agrees e l c v h;
       preview = λ o. rw o h;
+      depart = λ o. rw o h;
+      recover = λ o. rw o h;
     }))
   where
     Good : Outcome → Type 0

@@ -10,6 +10,7 @@ use Rattle.model.specs.declared.Command.{Command}
 use Rattle.model.specs.declared.Adjustment.{Adjustment}
 use Rattle.model.specs.declared.Steering.{Steering}
 use Rattle.model.specs.declared.Words.{Words}
+use Rattle.model.specs.declared.Outcome.{Outcome}
 use Rattle.model.specs.Units.{nsPerSecond}
 use Rattle.model.specs.Words.{noWords, secondsIn, nanosecondsIn, amountIn, countIn}
 use Rattle.model.specs.Clock.{exact, adjustedBy, clockSet}
@@ -23,7 +24,7 @@ use Rattle.model.specs.Ledger
 use Rattle.model.specs.Ledger.{LedgerSteering, Ledger}
 use Rattle.model.specs.Bookings.{booked, told}
 use Rattle.model.proofs.Laws.Testing.{split}
-use Rattle.model.proofs.Laws.Accepting.{by-write}
+use Rattle.model.proofs.Laws.Accepting.{by-write, commanded-accepted}
 use Rattle.model.proofs.Laws.FractionValues.{Is, is-over, is-finer}
 use Rattle.model.proofs.Follow.Agrees.{Steers, Agrees, after}
 
@@ -122,14 +123,26 @@ read-agrees e l b h =
     words-agree (cond (eqb b 0) e (withFifo e b (popped (fifo e b)))) l (readWords e b)
     (split (λ (x : Engine). Agrees x l) (eqb b 0) (λ z. h) (λ z. h))
 
+-- op 2, the write and then what it reads
+commanded-agrees : (e : Engine) (l : Ledger) (write read : ℕ) → Agrees e l
+    → Agrees (commanded e write read .engine)
+    (Ledger.ledgerCommanded l write read (commanded e write read .values))
+unfolding Ledger.ledgerCommanded commanded
+commanded-agrees e l write read h = by (eqb read 8)
+  where
+    done : Bool → Outcome
+    done b =
+        cond b (accepted noWords (written e write))
+        (accepted (readWords (written e write) read) (readEngine (written e write) read))
+
+    by : (b : Bool)
+        → Agrees (done b .engine)
+        (cond b (Ledger.ledgerWritten l write)
+        (Ledger.ledgerWords (Ledger.ledgerWritten l write) (done b .values)))
+    by true = write-agrees e l h write
+    by false = read-agrees (written e write) (Ledger.ledgerWritten l write) read (write-agrees e l h write)
+
 pub command-agrees : (e : Engine) (l : Ledger) (c : Command) → Agrees e l → c .op ≡ 2
     → Agrees (commanded e (c .a) (c .b) .engine) (after l c (commanded e (c .a) (c .b)))
-unfolding told booked Ledger.ledgerCommanded commanded
-command-agrees e l c h o = by (eqb (c .b) 8) refl
-  where
-    by : (b : Bool) → eqb (c .b) 8 ≡ b
-        → Agrees (commanded e (c .a) (c .b) .engine) (after l c (commanded e (c .a) (c .b)))
-    by true z = rw (o, z) (write-agrees e l h (c .a))
-    by false z =
-        rw (o, z)
-        (read-agrees (written e (c .a)) (Ledger.ledgerWritten l (c .a)) (c .b) (write-agrees e l h (c .a)))
+unfolding told booked
+command-agrees e l c h o = rw (o, commanded-accepted e (c .a) (c .b)) (commanded-agrees e l (c .a) (c .b) h)

@@ -21,13 +21,14 @@ use Rattle.model.specs.Tick
 use Rattle.model.specs.RunLine
 use Rattle.model.specs.OtherOps
 use Rattle.model.specs.Preview
+use Rattle.model.specs.Departure
 use Rattle.model.specs.Ops
 use Rattle.model.specs.Ranges.{valid}
 use Rattle.model.specs.Fields
 use Rattle.model.specs.Checks
 use Rattle.model.specs.Execute.{execute}
 use Rattle.model.proofs.Laws.Testing.{split, both, asked, Numbered, answer-none}
-use Rattle.model.proofs.Laws.Tables.{by-row}
+use Rattle.model.proofs.Laws.Tables.{_&_, by-row}
 
 -- the checks are numbered 4, 5, .. in the order of the table
 pub numbered : (e : Engine) (c : Command) → Numbered 4 (Checks.checks e c)
@@ -49,6 +50,8 @@ pub record Accepted (e : Engine) (c : Command) : Type 0 where
   pub check14 : Checks.isOp 3 c ≡ true → shown (e .clock) ≤ (c .b * nsPerSecond + c .c) * 256
   pub check15 : Checks.ticksFirst c ≡ true → Tick.endsInTime e ≡ true
   pub check15previewed : c .op ≡ 10 → Tick.inTimeFor (c .a) (OtherOps.adjustWritten e) ≡ true
+  pub check16 : Checks.isOp 11 c ≡ true → Departure.staysSigned (e .clock) (c .a) ≡ true
+  pub check17 : Checks.isOp 12 c ≡ true → Departure.isTime (c .a) (c .b) ≡ true
 
 -- ops 0 and 9 begin with a tick
 pub tick-first : (c : Command) → c .op ≡ 0 → Checks.ticksFirst c ≡ true
@@ -91,6 +94,8 @@ accepted-facts e c h =
       check14 = λ a. leb-true _ _ (asked _ _ (passed 14) a);
       check15 = first-asked e c (passed 15);
       check15previewed = preview-asked e c (passed 15);
+      check16 = asked _ _ (passed 16);
+      check17 = asked _ _ (passed 17);
     }
 
 -- an outcome by the answer: a refusal with the number of the first failed check, or the op performed
@@ -122,13 +127,19 @@ pub record ByOp (P : Outcome → Type 0) (e : Engine) (c : Command) : Type 0 whe
   pub show : c .op ≡ 8 → P (accepted (e .words) e)
   pub run : c .op ≡ 9 → P (RunLine.ran e (c .a))
   pub preview : c .op ≡ 10 → P (Preview.previewed e (c .a))
+  pub depart : c .op ≡ 11 → P (Departure.departed e (c .a))
+  pub recover : c .op ≡ 12 → P (Departure.recovered e (c .a) (c .b))
 
 pub by-op : (P : Outcome → Type 0) (e : Engine) (c : Command) → c .op < length Ops.ops → ByOp P e c
     → P (Ops.performed e c)
 unfolding Ops.performed
 by-op P e c few by =
     by-row (λ n op. c .op ≡ n → P (op e c)) Ops.ops (c .op) Ops.unknown
-    (search depth 13) (λ n past o. absurd (omega arith)) refl
+    (
+    by .tick & by .load & by .command & by .arm & by .stop & by .interrupts & by .mask & by .status & by .show & by .run
+    & by .preview & by .depart & by .recover & tt
+    )
+    (λ n past o. absurd (omega arith)) refl
 
 -- what a write leaves, by its selector
 pub record ByWrite (P : Engine → Type 0) (e : Engine) (selector : ℕ) : Type 0 where
@@ -144,14 +155,18 @@ by-write P e selector by =
     by-row (λ n write. selector ≡ n → P (write e)) OtherOps.writings selector (λ e. e)
     (search) (λ n past o. by .none (omega arith)) refl
 
+pub commanded-accepted : (e : Engine) (write read : ℕ) → OtherOps.commanded e write read .answer ≡ 0
+unfolding OtherOps.commanded
+commanded-accepted e write read = split (λ (x : Outcome). x .answer ≡ 0) (eqb read 8) (λ y. refl) (λ y. refl)
+
 performed-answer : (e : Engine) (c : Command) → c .op < length Ops.ops → Ops.performed e c .answer ≡ 0
-unfolding OtherOps.commanded OtherOps.interruptsRead RunLine.ran Preview.previewed
+unfolding OtherOps.interruptsRead RunLine.ran Preview.previewed Departure.departed Departure.recovered
 performed-answer e c few =
     by-op (λ (x : Outcome). x .answer ≡ 0) e c few
     (record {
       tick = λ o. refl;
       load = λ o. refl;
-      command = λ o. split (λ (x : Outcome). x .answer ≡ 0) (eqb (c .b) 8) (λ y. refl) (λ y. refl);
+      command = λ o. commanded-accepted e (c .a) (c .b);
       arm = λ o. refl;
       stop = λ o. refl;
       interrupts = λ o. refl;
@@ -160,6 +175,8 @@ performed-answer e c few =
       show = λ o. refl;
       run = λ o. refl;
       preview = λ o. refl;
+      depart = λ o. refl;
+      recover = λ o. refl;
     })
 
 -- the answer of an outcome is the number of the first failed check

@@ -17,7 +17,7 @@ use Rattle.model.specs.Fifo.{isEmpty}
 use Rattle.model.specs.Generator.{isRunning}
 use Rattle.model.specs.Record.{fifo, generator}
 use Rattle.model.specs.Fields.{fieldsOk}
-use Rattle.model.specs.Checks.{isOp, readsFifo, writes, adjusts, writesAmount, checks, passes}
+use Rattle.model.specs.Checks.{lastNumber, isOp, readsFifo, writes, adjusts, writesAmount, checks, passes}
 use Rattle.model.specs.Execute.{execute}
 use Rattle.model.specs.Sentences.{Comes, IsWrite, IsAdjust, IsRead, Listed}
 use Rattle.model.proofs.Laws.Testing.{both, both-true, neither, or-left, or-right}
@@ -33,7 +33,7 @@ row-fails false test h = absurd (true≢false h)
 pub fails-row : (applies test : Bool) → applies ≡ true → test ≡ false → (not applies || test) ≡ false
 fails-row applies test a t = rw (a, t) refl
 
-one-fails : (a b : Bool) → (a && b) ≡ false → (a ≡ false) ⊎ (b ≡ false)
+pub one-fails : (a b : Bool) → (a && b) ≡ false → (a ≡ false) ⊎ (b ≡ false)
 one-fails true b h = inr h
 one-fails false b h = inl refl
 
@@ -59,13 +59,13 @@ module _ (e : Engine) (c : Command) where
   abbrev pub Above : ℕ → Type 0
   Above n = (m : ℕ) → 4 ≤ m → m < n → passes e c m ≡ true
 
-  above : (n : ℕ) → n ≤ 15 → (execute e c .answer ≡ 0) ⊎ (n ≤ execute e c .answer) → Above n
+  above : (n : ℕ) → n ≤ lastNumber → (execute e c .answer ≡ 0) ⊎ (n ≤ execute e c .answer) → Above n
   above n few (inl none) m low l = accepted-passes e c none m low (omega arith)
   above n few (inr h) m low l =
       answer-cause e c (execute e c .answer) (omega arith) refl .above m low (omega arith)
 
   -- so the number comes where its row fails
-  pub comes : (n : ℕ) → 4 ≤ n → n ≤ 15 → (holds : Type 0)
+  pub comes : (n : ℕ) → 4 ≤ n → n ≤ lastNumber → (holds : Type 0)
       → (Above n → passes e c n ≡ false → holds)
       → (Above n → holds → passes e c n ≡ false)
       → Comes n e c holds
@@ -75,17 +75,17 @@ module _ (e : Engine) (c : Command) where
         (λ h. cause-answer e c n low (record { fails = from a h; above = a })),
       )
 
-  pub number-5 : Comes 5 e c (10 < c .op)
+  pub number-5 : Comes 5 e c (12 < c .op)
   unfolding checks
   number-5 =
       comes 5 (omega arith) (omega arith) _
-      (λ a h. omega (arith, Test.ltb-false (c .op) 11 h))
-      (λ a h. Test.le-ltb (c .op) 11 (omega arith))
+      (λ a h. omega (arith, Test.ltb-false (c .op) 13 h))
+      (λ a h. Test.le-ltb (c .op) 13 (omega arith))
 
   -- number 6, where number 5 has not come
-  known : {n : ℕ} → 5 < n → Above n → c .op ≤ 10
+  known : {n : ℕ} → 5 < n → Above n → c .op ≤ 12
   unfolding checks
-  known l a = omega (arith, Test.ltb-true (c .op) 11 (a 5 (omega arith) l))
+  known l a = omega (arith, Test.ltb-true (c .op) 13 (a 5 (omega arith) l))
 
   pub number-6 : Comes 6 e c (Listed c → ⊥)
   unfolding checks
@@ -98,7 +98,7 @@ module _ (e : Engine) (c : Command) where
       by true ok h = absurd (h (listed-in c ok))
       by false ok h = refl
 
-  listed : {n : ℕ} → 6 < n → Above n → Listed c
+  pub listed : {n : ℕ} → 6 < n → Above n → Listed c
   unfolding checks
   listed l a = listed-in c (a 6 (omega arith) l)
 

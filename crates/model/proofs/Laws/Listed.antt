@@ -17,7 +17,7 @@ use Rattle.model.specs.Ops.{ops}
 use Rattle.model.specs.Fields
 use Rattle.model.specs.Sentences.{ZeroFromF, ZeroFromD, ZeroFromB, Codes, IsGenerator, Arms, Listed}
 use Rattle.model.proofs.Laws.Testing.{Every, facts, below-all, or-right}
-use Rattle.model.proofs.Laws.Tables.{by-row}
+use Rattle.model.proofs.Laws.Tables.{_&_, by-row}
 use Rattle.model.proofs.Laws.Bits.{only-bits-lt, only-bits-le, only-bits-from}
 
 -- every op of the table of ops has its list
@@ -103,6 +103,8 @@ listed-in c ok = record {
   show = λ o. let f = tests 8 o in omega (arith, Test.eqb-true);
   run = λ o. let f = tests 9 o in omega (arith, Test.leb-true, Test.eqb-true);
   preview = λ o. let f = tests 10 o in omega (arith, Test.leb-true, Test.eqb-true);
+  depart = λ o. let f = tests 11 o in omega (arith, Test.ltb-true, Test.eqb-true);
+  recover = λ o. let f = tests 12 o in omega (arith, Test.ltb-true, Test.eqb-true);
 }
   where
     tests : (n : ℕ) → c .op ≡ n → Every (getD Fields.fieldLists n Fields.noFields c)
@@ -182,38 +184,31 @@ module _ (c : Command) where
   set-mask-ok : (c .a < 2 ^ 14) × (c .a / 2 ^ 7 % 2 ≡ 0) × ZeroFromB c → every (Fields.maskFields c) ≡ true
   set-mask-ok h = rw (mask-ok (c .a) (h .0) (h .1), zero-from-b (h .2)) refl
 
-  pub listed-ok : c .op ≤ 10 → Listed c → Fields.fieldsOk c ≡ true
+  depart-ok : (c .a < 2 ^ 64) × ZeroFromB c → every (Fields.departFields c) ≡ true
+  depart-ok h = rw (Test.lt-ltb (c .a) (2 ^ 64) (h .0), zero-from-b (h .1)) refl
+
+  recover-ok : (c .a < 2 ^ 48) × (c .b < 2 ^ 64) × (c .c ≡ 0) × ZeroFromD c → every (Fields.recoverFields c) ≡ true
+  recover-ok h =
+      rw (Test.lt-ltb (c .a) (2 ^ 48) (h .0), Test.lt-ltb (c .b) (2 ^ 64) (h .1), h .2, zero-from-d (h .3)) refl
+
+  pub listed-ok : c .op ≤ 12 → Listed c → Fields.fieldsOk c ≡ true
   unfolding Fields.fieldsOk Fields.fieldTests
   listed-ok few l =
-      by-row (λ n list. c .op ≡ n → every (list c) ≡ true) Fields.fieldLists (c .op) Fields.noFields (
-        λ o. tick-ok (l .tick o),
-        (
-          λ o. load-ok (l .load o),
-          (
-            λ o. command-ok (l .command o),
-            (
-              λ o. arm-ok (l .arm o),
-              (
-                λ o. stop-ok (l .stop o),
-                (
-                  λ o. none-ok (l .interrupts o),
-                  (
-                    λ o. set-mask-ok (l .mask o),
-                    (
-                      λ o. none-ok (l .status o),
-                      (
-                        λ o. none-ok (l .show o),
-                        (
-                          λ o. ticks-ok 1000000 (l .run o),
-                          (λ o. ticks-ok 1000 (l .preview o), tt),
-                        ),
-                      ),
-                    ),
-                  ),
-                ),
-              ),
-            ),
-          ),
-        ),
+      by-row (λ n list. c .op ≡ n → every (list c) ≡ true) Fields.fieldLists (c .op) Fields.noFields
+      (
+      (λ o. tick-ok (l .tick o))
+      & (λ o. load-ok (l .load o))
+      & (λ o. command-ok (l .command o))
+      & (λ o. arm-ok (l .arm o))
+      & (λ o. stop-ok (l .stop o))
+      & (λ o. none-ok (l .interrupts o))
+      & (λ o. set-mask-ok (l .mask o))
+      & (λ o. none-ok (l .status o))
+      & (λ o. none-ok (l .show o))
+      & (λ o. ticks-ok 1000000 (l .run o))
+      & (λ o. ticks-ok 1000 (l .preview o))
+      & (λ o. depart-ok (l .depart o))
+      & (λ o. recover-ok (l .recover o))
+      & tt
       )
       (λ n past o. absurd (omega arith)) refl

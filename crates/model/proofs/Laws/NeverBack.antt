@@ -22,13 +22,15 @@ use Rattle.model.specs.RunLine.{run}
 use Rattle.model.specs.RunLine as RunLine
 use Rattle.model.specs.OtherOps
 use Rattle.model.specs.Preview.{previewed}
+use Rattle.model.specs.Departure.{departed, recovered}
 use Rattle.model.specs.TimestampsOn.{codeOn, fifoOn, bringsEdge, edgeInstant, edgeNs}
 use Rattle.model.specs.TimestampsOn.{timestampsOn, keepsTime, Ascending}
 use Rattle.model.specs.Sentences.{Codes}
 use Rattle.model.proofs.Laws.Testing.{split, both, both-true}
 use Rattle.model.proofs.Laws.ExactTime.{shown-ticked}
 use Rattle.model.proofs.Laws.RunTicks.{ran-ticks}
-use Rattle.model.proofs.Laws.Accepting.{by-answer, by-op, by-write, execute-accepted, performed-row, tick-first}
+use Rattle.model.proofs.Laws.Accepting.{by-answer, by-op, by-write, commanded-accepted, execute-accepted}
+use Rattle.model.proofs.Laws.Accepting.{performed-row, tick-first}
 use Rattle.model.proofs.Laws.Listed.{listed-in}
 use Rattle.model.proofs.Laws.FifoPlaces.{eighth-small, stored}
 
@@ -103,17 +105,13 @@ commanded-later e write read n =
 abbrev writesTime : Command → Outcome → Bool
 writesTime c x = writes 0 c && eqb (x .answer) 0
 
-commanded-accepted : (e : Engine) (write read : ℕ) → OtherOps.commanded e write read .answer ≡ 0
-unfolding OtherOps.commanded
-commanded-accepted e write read = split (λ (x : Outcome). x .answer ≡ 0) (eqb read 8) (λ y. refl) (λ y. refl)
-
 time-written : (e : Engine) (c : Command) → c .op ≡ 2 → c .a ≡ 0
     → writesTime c (OtherOps.commanded e (c .a) (c .b)) ≡ true
 time-written e c o a =
     both-true _ _ (both-true _ _ (eq-eqb _ _ o) (eq-eqb _ _ a)) (eq-eqb _ _ (commanded-accepted e (c .a) (c .b)))
 
 pub execute-later : (e : Engine) (c : Command) → writesTime c (execute e c) ≡ false → NotBack e (execute e c .engine)
-unfolding OtherOps.interruptsRead previewed
+unfolding OtherOps.interruptsRead previewed departed recovered
 execute-later e c =
     by-answer Good e c
     (λ n h. omega arith)
@@ -130,6 +128,8 @@ execute-later e c =
       show = λ o h. omega arith;
       run = λ o h. run-later e (c .a);
       preview = λ o h. omega arith;
+      depart = λ o h. omega arith;
+      recover = λ o h. omega arith;
     }))
   where
     Good : Outcome → Type 0

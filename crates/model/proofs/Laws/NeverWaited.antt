@@ -21,6 +21,7 @@ use Rattle.model.specs.Tick.{tickEngine, noInputs, ticks}
 use Rattle.model.specs.RunLine.{run, ran}
 use Rattle.model.specs.OtherOps.{adjustWritten, written, readEngine, commanded, interruptsRead}
 use Rattle.model.specs.Preview.{previewed}
+use Rattle.model.specs.Departure.{departed, recovered}
 use Rattle.model.specs.Ops.{performed}
 use Rattle.model.specs.Checks.{adjusts, table, checked, checks, answerOf}
 use Rattle.model.specs.Execute.{execute}
@@ -136,7 +137,7 @@ unfolding interruptsRead
 interrupts-free e free = free
 
 performed-free : (e : Engine) (c : Command) → Free e → answerBefore e c ≡ 0 → Free (performed e c .engine)
-unfolding previewed
+unfolding previewed departed recovered
 performed-free e c free h =
     let passed : answerOf e c ≡ 0 = same-answer e c free (λ z. omega arith) ∙ h in
     by-op (λ (x : Outcome). Free (x .engine)) e c (accepted-facts e c passed .op)
@@ -152,6 +153,8 @@ performed-free e c free h =
       show = λ o. free;
       run = λ o. run-free (c .a) e free;
       preview = λ o. free;
+      depart = λ o. free;
+      recover = λ o. free;
     })
   where
     writes-adjust : c .op ≡ 2 → c .a ≡ 2 → adjusts c ≡ true

@@ -116,7 +116,7 @@ module _ (e : Engine) (v : valid e ≡ true) where
   write-left h = rw h refl
 
 -- a TIME read of a valid record
-time-read : (e : Engine) → valid e ≡ true → execute e timeRead .values ≡ readWords e 0
+pub time-read : (e : Engine) → valid e ≡ true → execute e timeRead .values ≡ readWords e 0
 unfolding execute answerOf checks fieldsOk fieldTests performed commanded written
 time-read e v = rw v refl
 

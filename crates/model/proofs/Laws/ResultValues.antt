@@ -1,7 +1,7 @@
 -- The values of an outcome are 16-bit words. A tick returns codes of at most 16, a read the words that it leaves in
--- the record, which is valid again, op 8 the record's words, and the interrupt and status words have bits below 15;
--- a run returns its last tick's codes and its ticks, at most a million, in two words, a preview the words of a time;
--- every other value is 0. An answer is the number of a check.
+-- the record, which is valid again, op 8 the record's words, and the interrupt and status words have bits below 15; a
+-- run returns its last tick's codes and its ticks, at most a million, in two words, a preview and op 12 the words of a
+-- time, op 11 those of a pattern; every other value is 0. An answer is the number of a check.
 use Prim.Native.Nat.{ℕ, zero, suc, _<_, _≤_}
 use mathlib.Core.Path.{_≡_}
 use mathlib.Core.Bool.{true}
@@ -20,6 +20,7 @@ use Rattle.model.specs.Tick.{tickStep, tickValues, ticks}
 use Rattle.model.specs.RunLine.{run, ran}
 use Rattle.model.specs.OtherOps
 use Rattle.model.specs.Preview.{previewed}
+use Rattle.model.specs.Departure.{departed, recovered}
 use Rattle.model.specs.Ops.{performed}
 use Rattle.model.specs.Ranges.{valid}
 use Rattle.model.specs.Bounds.{WordsRange}
@@ -34,6 +35,7 @@ use Rattle.model.proofs.Laws.Latching.{interrupts-read, status-read}
 use Rattle.model.proofs.Laws.Eighths.{eighth-below-8}
 use Rattle.model.proofs.Laws.RunTicks.{lastValues, ran-ticks}
 use Rattle.model.proofs.Laws.Valid.{performed-valid}
+use Rattle.model.proofs.Laws.Departures.{four-words-in}
 use Rattle.model.proofs.Laws.Outcomes.{answer-bounds}
 
 code-low : (direction eighth : ℕ) → eighth < 8 → edgeCode direction eighth ≤ 16
@@ -88,6 +90,15 @@ previewed-values-in : (e : Engine) (a : ℕ) → WordsRange (previewed e a .valu
 unfolding previewed OtherOps.readWords
 previewed-values-in e a = time-words-in _ _ 0 (omega arith)
 
+-- op 11 returns the words of a pattern, and op 12 those of a time
+departed-values-in : (e : Engine) (field : ℕ) → WordsRange (departed e field .values)
+unfolding departed
+departed-values-in e field = four-words-in _
+
+recovered-values-in : (e : Engine) (a field : ℕ) → WordsRange (recovered e a field .values)
+unfolding recovered
+recovered-values-in e a field = time-words-in _ _ 0 (omega arith)
+
 performed-values-in : (e : Engine) (c : Command) → Accepted e c → WordsRange (performed e c .values)
 performed-values-in e c k =
     let v = valid-parts e (k .valid) in
@@ -104,6 +115,8 @@ performed-values-in e c k =
       show = λ o w. words-in (e .words) (v .words);
       run = λ o w. ran-values-in e (c .a) (listed-in c (k .fields) .run o .1);
       preview = λ o w. previewed-values-in e (c .a);
+      depart = λ o w. departed-values-in e (c .a);
+      recover = λ o w. recovered-values-in e (c .a) (c .b);
     })
     (performed-valid e c k)
 

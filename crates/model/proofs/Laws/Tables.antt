@@ -11,6 +11,11 @@ abbrev pub Each : {A : Type 0} → (ℕ → A → Type 0) → List A → Type 0
 Each P [] = Unit {0}
 Each P (x ∷ xs) = P 0 x × Each (λ n. P (suc n)) xs
 
+-- a row's, and those of the rows behind it
+infixr 5 _&_
+abbrev pub _&_ : {A B : Type 0} → A → B → A × B
+a & b = (a, b)
+
 -- what each row has, and the default past them, the row that is read has
 pub by-row : {A : Type 0} (P : ℕ → A → Type 0) (l : List A) (n : ℕ) (d : A) → Each P l
     → ((k : ℕ) → length l ≤ k → P k d) → P n (getD l n d)

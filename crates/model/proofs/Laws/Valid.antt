@@ -20,6 +20,7 @@ use Rattle.model.specs.Record
 use Rattle.model.specs.RunLine
 use Rattle.model.specs.OtherOps
 use Rattle.model.specs.Preview.{previewed}
+use Rattle.model.specs.Departure.{departed, recovered}
 use Rattle.model.specs.Ops
 use Rattle.model.specs.Ranges
 use Rattle.model.specs.Fields
@@ -171,7 +172,7 @@ unfolding RunLine.ran
 ran-valid e a v = run-valid a e v
 
 pub performed-valid : (e : Engine) (c : Command) → Accepted e c → Valid (Ops.performed e c .engine)
-unfolding previewed
+unfolding previewed departed recovered
 performed-valid e c k =
     let v = valid-parts e (k .valid) in
     let i = interrupts-in (e .interrupts) (v .interrupts) in
@@ -189,6 +190,8 @@ performed-valid e c k =
       show = λ o. v;
       run = λ o. ran-valid e (c .a) v;
       preview = λ o. v;
+      depart = λ o. v;
+      recover = λ o. v;
     })
 
 -- execute keeps a valid record valid

@@ -1,0 +1,2 @@
+-- Why the two ops are the model's.
+pub mod Checked
