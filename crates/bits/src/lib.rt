@@ -1,5 +1,7 @@
 // Fields of bits in a number: a shift and a mask take one out, and a shift and an `|` put two together. What they
 // mean is plain arithmetic: division, remainder and sum by powers of 2.
+#![tactic(auto)]
+
 ghost use Rattle.std.specs.Prelude.{◌≡◌, ◌+◌, ◌*◌, ◌/◌, ◌%◌, ◌^◌, ◌<◌};
 
 // Bits low to low + width - 1 of x.

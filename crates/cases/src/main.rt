@@ -1,6 +1,8 @@
 // Runs every sheet of data/ through the runner and prints its results under its name, then what `streams::run` does
 // with descriptors of other kinds, of which no contract speaks, then a command on records that no sheet reaches. The
 // stored output was not made by this program: WORKED_OUT.md says how it was.
+#![tactic(auto)]
+
 mod records;
 
 // One sheet of data/.

@@ -1,13 +1,15 @@
 // What a command gives and changes: its answer and values, and every part of the record but the timestamp FIFOs.
 // These are most of the record and seldom move, so a caller that runs many commands keeps the record in one variable,
 // moves a FIFO there only where one moves, and copies nothing. Document 01, "Command sheet".
+#![tactic(auto)]
+
 ghost use Rattle.std.specs.Prelude.{◌≡◌};
 ghost use Rattle.change.specs.Changes.{change_to, applied};
 
 use model::{Clock, Engine, Generator, Interrupts, Steering, Words};
 
 // `moves` tells that a FIFO moves: a tick stores a timestamp, or a read takes the oldest out.
-#[derive(Drop)]
+#[derive(Clone, Copy)]
 pub struct Change {
     pub answer: u64,
     pub values: Words,

@@ -1,6 +1,8 @@
 // The checks of ops 0 to 8 on a valid record, from number 6 on; later ops make their own: a function for each that is
 // more than a comparison, and the ordered list, where the first that fails is the answer. Each returns what the model's
 // table says of its number (specs/Checks.antt). Document 01, "Where each command is checked".
+#![tactic(auto)]
+
 ghost use Rattle.std.specs.Prelude.{◌≡◌, true, false, ◌≤◌, eqb};
 ghost use Rattle.model.specs.Record.{fifo};
 ghost use Rattle.model.specs.Ranges.{valid};

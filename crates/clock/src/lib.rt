@@ -1,6 +1,8 @@
 // The clock and its steering: the amount of a cycle, the step, the tick with its carries, what a cycle makes of the
 // steering, and the two tests on the time shown. Each function returns a definition of the model's specs/Clock.antt,
 // which adds on totals; the carries here are shown to be the same. Document 01, "The clock".
+#![tactic(auto)]
+
 ghost use Rattle.std.specs.Prelude.{◌≡◌, true, ◌+◌, ◌*◌, ◌<◌, ◌≤◌, ◌^◌, leb, ltb};
 ghost use Rattle.model.specs.Units.{ns_per_second};
 ghost use Rattle.model.specs.Clock.{shown, end_of_time, cycle_amount, step_by, ticked, clock_set};
@@ -111,7 +113,7 @@ fn steering_after(s: Steering) -> Steering
 
 // What a cycle makes of the steering: its amount, the steering after it (PERIOD stays), and whether it was an
 // adjustment's last, which sets TAC.
-#[derive(Drop)]
+#[derive(Clone, Copy)]
 pub struct Steered {
     pub amount: u64,
     pub steering: Steering,

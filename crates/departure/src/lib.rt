@@ -1,6 +1,8 @@
 // Ops 11 and 12: the departure time of a Delay_Req in its correctionField, and back out of it. A field stays the 64-bit
 // pattern that it is given as, since a sum of patterns modulo 2^64 is the pattern of the sum. Each op makes its own
 // checks, and is the model's (specs/Departure.antt). Document 02, A.7; sheet 000, 6.13.7.3.2.
+#![tactic(auto)]
+
 ghost use Rattle.std.specs.Prelude.{◌≡◌, ◌^◌, ◌<◌, true, false, pos, ◌+ℤ◌};
 ghost use Rattle.model.specs.Words.{no_words};
 ghost use Rattle.model.specs.Departure.{signed, fits64, departure as departure_spec, four_words, seconds_since};

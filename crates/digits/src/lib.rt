@@ -1,5 +1,7 @@
 // One value of a command sheet by itself, in decimal or in base 16, without leading zeros and below 2^64. Each function
 // returns a definition of text's specs/Text.antt or of specs/. Document 01, "Command sheet"; document 02, A.6.
+#![tactic(auto)]
+
 ghost use Rattle.std.specs.Prelude.{◌≡◌};
 ghost use Rattle.text.specs.Text.{no_value, leads_well, value_of};
 ghost use Rattle.digits.specs.Digits.{digit_after, number_in};

@@ -1,6 +1,8 @@
 // Ticks by formula: what so many cycles bring, and the clock and the steering after them. Each function returns a
 // definition of the model's specs/Elapse.antt or of specs/Seconds.antt. At most a million cycles bring less than a
 // second, so that every number fits into 64 bits and the second carries at most once. Document 02, A.1 and A.4.
+#![tactic(auto)]
+
 ghost use Rattle.std.specs.Prelude.{◌≡◌, true, ◌+◌, ◌*◌, ◌/◌, ◌<◌, ◌≤◌, ◌^◌, ltb};
 ghost use Rattle.model.specs.Clock.{end_of_time, clock_at_exact};
 ghost use Rattle.model.specs.Ranges.{steering_ok};

@@ -1,6 +1,8 @@
 // The field lists: number 6. One function for each op's list, and one choice among them. Each returns a definition
 // of the model's specs/Fields.antt. Document 01, "Command sheet": unlisted fields must be 0; op 9, document
 // 02, A.1; op 10, A.5; ops 11 and 12, A.7.
+#![tactic(auto)]
+
 ghost use Rattle.std.specs.Prelude.{◌^◌, ◌≡◌, ltb};
 ghost use Rattle.model.specs.Tests.{every};
 ghost use Rattle.model.specs.Fields.{zero_from_f, zero_from_d, zero_from_b, is_generator, tick_fields, load_fields};

@@ -1,6 +1,8 @@
 // Timestamp FIFOs: an input edge is stamped and stored behind the others, and a read takes the oldest out and shifts
 // the rest down. Entries are an array by value of timestamps. Each function returns a definition of the model's
 // specs/Fifo.antt. Document 01, "Stamps and generators"; document 02, A.2.
+#![tactic(auto)]
+
 ghost use Rattle.std.specs.Prelude.{◌≡◌, ◌+◌, ◌*◌, ◌<◌, ◌≤◌, min, eqb};
 ghost use Rattle.model.specs.Units.{ns_per_second};
 ghost use Rattle.model.specs.Clock.{shown};
@@ -19,7 +21,7 @@ const HALF: u64 = 1024;
 const LAST_SECOND: u64 = 0xFFFF_FFFF_FFFF;
 
 // What becomes of an input's edge in a tick: stored, and perhaps the first in its FIFO (NE), or dropped (OF).
-#[derive(Drop)]
+#[derive(Clone, Copy)]
 pub struct Arrival {
     pub stored: bool,
     pub first: bool,

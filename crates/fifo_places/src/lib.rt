@@ -1,6 +1,8 @@
 // The check of the three timestamp FIFOs, a part of number 4. They are looked at together, place by place, in one row of
 // tests of which the compiler can make straight code with no copy. Each function returns a definition of the model's
 // specs/Ranges.antt or of specs/. Document 01, "Where each command is checked", below the table.
+#![tactic(auto)]
+
 ghost use Rattle.std.specs.Prelude.{◌≡◌, ◌&&◌, cond, ◌<◌, eqb};
 ghost use Rattle.model.specs.Tests.{every_below};
 ghost use Rattle.model.specs.Ranges.{timestamp_ok, timestamp_zero, place_ok, fifo_ok};
@@ -19,7 +21,7 @@ fn bits_of(t: Timestamp) -> u64
 // What was seen of places of FIFOs: the seconds and the directions of used places, each as one `|`, every bit that
 // is set in the other places, and whether a used place has too many nanoseconds. The `|` of numbers is below a power
 // of 2 just where all of them are.
-#[derive(Drop)]
+#[derive(Clone, Copy)]
 struct Seen {
     seconds: u64,
     rising: u64,

@@ -2,6 +2,8 @@
 // after the edge. Instants keep their remainder over the denominator, so nothing is rounded. Each function returns a
 // definition of the model's specs/Generator.antt or of specs/Advance.antt. Document 01, "Stamps and generators";
 // document 02, A.3.
+#![tactic(auto)]
+
 ghost use Rattle.std.specs.Prelude.{◌≡◌, ◌<◌, ◌^◌};
 ghost use Rattle.model.specs.Clock.{shown};
 ghost use Rattle.model.specs.Edges.{edge_code};
@@ -13,7 +15,7 @@ use tests::pick;
 
 // What a tick makes of a generator: the code of its edge or 0, the generator after it, and whether EC and SC are
 // set.
-#[derive(Drop)]
+#[derive(Clone, Copy)]
 pub struct Advanced {
     pub code: u64,
     pub generator: Generator,

@@ -2,6 +2,8 @@
 // Each function returns a definition of the model's specs/Interrupts.antt; its `latch` goes through the whole table,
 // and here a source or two at a time (specs/Position.antt; proofs/Table.antt says that it is the same). Document 01,
 // "Interrupt words"; sheet 000, 7.2.18 to 7.2.20.
+#![tactic(auto)]
+
 ghost use Rattle.std.specs.Prelude.{◌≡◌, ◌&&◌, ◌<◌, ◌^◌};
 ghost use Rattle.model.specs.Interrupts.{positions, has_bit, with_bit, any_both};
 ghost use Rattle.model.specs.Interrupts.{interrupt_word, status_word, only_bits};

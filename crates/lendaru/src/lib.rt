@@ -1,5 +1,7 @@
 // The static library for firmware in C or Rust: what include/lendaru.h declares. Each function is a function of the
 // layers below under a name that C can link; a slice is a pointer and a length there.
+#![tactic(auto)]
+
 ghost use Rattle.std.specs.Prelude.{◌≡◌};
 ghost use Rattle.text.specs.Sheet.{sheet_version};
 ghost use Rattle.text.specs.Results.{results_room};

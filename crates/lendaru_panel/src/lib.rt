@@ -1,5 +1,7 @@
 // The engine over a record that the firmware lends: what include/lendaru_panel.h declares. A library of its own, since
 // a second caller of the engine in liblendaru.a would keep the compiler from putting the tick into the sheet's loop.
+#![tactic(auto)]
+
 ghost use Rattle.std.specs.Prelude.{◌≡◌};
 ghost use Rattle.model.specs.Record.{power_on, record_version};
 ghost use Rattle.model.specs.Execute.{execute as execute_spec};
@@ -13,7 +15,7 @@ const RECORD_VERSION: u64 = 2;
 
 // What the caller is told: the answer and the five values.
 #[repr(C)]
-#[derive(Drop)]
+#[derive(Clone, Copy)]
 pub struct Reply {
     pub answer: u64,
     pub values: Words,

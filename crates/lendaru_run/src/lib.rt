@@ -1,6 +1,8 @@
 // A run of ticks on a record that the firmware lends: what include/lendaru_panel.h declares beside the commands. An
 // archive of its own, since a second caller of check 4 and of the run in liblendaru_panel.a would make a function of
 // each, to which the record is copied. Document 02, A.1.
+#![tactic(auto)]
+
 ghost use Rattle.std.specs.Prelude.{◌≡◌};
 ghost use Rattle.model.specs.RunLine.{run_line};
 ghost use Rattle.model.specs.Execute.{execute as execute_spec};

@@ -1,6 +1,8 @@
 // Reading one value line of a command sheet, which begins at an index of the caller's slice, with short ways for the
 // lines that are most, those of ticks. Each function returns a definition of text's specs/Sheet.antt or of specs/.
 // Document 01, "Command sheet".
+#![tactic(auto)]
+
 ghost use Rattle.std.specs.Prelude.{◌≡◌, ◌≤◌, length, drop};
 ghost use Rattle.text.specs.Sheet.{no_line, line_of};
 ghost use Rattle.lines.specs.Reading.{line_part, ReadAt, EndAt};

@@ -1,6 +1,7 @@
 // The plain types of the time engine: the engine record, a command and an outcome, and the limits that the code
 // names. They are declared here and nothing runs here; what they mean stands in specs/, to be read in the order of
 // specs/Lib.antt. Every number is a u64, so that the ranges of check 4 say something.
+#![tactic(auto)]
 
 // Seconds are below 2^48.
 pub const SECONDS_LIMIT: u64 = 0x1_0000_0000_0000;
@@ -23,7 +24,7 @@ pub const ENABLED_MASK: u64 = 0x3F7F;
 
 // The time shown (48-bit seconds, nanoseconds, 1/256 ns) and the hidden remainder in 2^-32 ns.
 #[repr(C)]
-#[derive(Drop)]
+#[derive(Clone, Copy)]
 pub struct Clock {
     pub seconds: u64,
     pub nanoseconds: u64,
@@ -33,7 +34,7 @@ pub struct Clock {
 
 // PER_ADJ in 2^-32 ns and the cycles that are left of it; none is all zeros.
 #[repr(C)]
-#[derive(Drop)]
+#[derive(Clone, Copy)]
 pub struct Adjustment {
     pub amount: u64,
     pub cycles: u64,
@@ -41,7 +42,7 @@ pub struct Adjustment {
 
 // PERIOD in 2^-32 ns, the running adjustment, and the one that waits behind it (document 02, A.4).
 #[repr(C)]
-#[derive(Drop)]
+#[derive(Clone, Copy)]
 pub struct Steering {
     pub period: u64,
     pub adjustment: Adjustment,
@@ -50,7 +51,7 @@ pub struct Steering {
 
 // The timestamp of an input edge; rising is 1 or 0.
 #[repr(C)]
-#[derive(Drop)]
+#[derive(Clone, Copy)]
 pub struct Timestamp {
     pub seconds: u64,
     pub nanoseconds: u64,
@@ -59,7 +60,7 @@ pub struct Timestamp {
 
 // The timestamp FIFO of one timestamper: oldest first, unused places zero.
 #[repr(C)]
-#[derive(Drop)]
+#[derive(Clone, Copy)]
 pub struct Fifo {
     pub entries: [Timestamp; 8],
     pub count: u64,
@@ -67,7 +68,7 @@ pub struct Fifo {
 
 // An instant: seconds, nanoseconds, and remainder / D of a nanosecond, D being its generator's denominator.
 #[repr(C)]
-#[derive(Drop)]
+#[derive(Clone, Copy)]
 pub struct Instant {
     pub seconds: u64,
     pub nanoseconds: u64,
@@ -77,7 +78,7 @@ pub struct Instant {
 // An event generator: the pending instant, the interval W + N/D ns, the edges left, the direction of the next edge
 // (0 rising, 1 falling) and the mark; idle is all zeros.
 #[repr(C)]
-#[derive(Drop)]
+#[derive(Clone, Copy)]
 pub struct Generator {
     pub pending: Instant,
     pub whole: u64,
@@ -90,7 +91,7 @@ pub struct Generator {
 
 // PTP_IR and PTP_IE: the latched bits and the interrupt mask.
 #[repr(C)]
-#[derive(Drop)]
+#[derive(Clone, Copy)]
 pub struct Interrupts {
     pub latched: u64,
     pub enabled: u64,
@@ -98,7 +99,7 @@ pub struct Interrupts {
 
 // Five numbers: the words TEIO1 to TEIO5, and the values v1 to v5 of an outcome.
 #[repr(C)]
-#[derive(Drop)]
+#[derive(Clone, Copy)]
 pub struct Words {
     pub w1: u64,
     pub w2: u64,
@@ -109,7 +110,7 @@ pub struct Words {
 
 // The engine record.
 #[repr(C)]
-#[derive(Drop)]
+#[derive(Clone, Copy)]
 pub struct Engine {
     pub clock: Clock,
     pub steering: Steering,
@@ -124,7 +125,7 @@ pub struct Engine {
 
 // One line of a command sheet.
 #[repr(C)]
-#[derive(Drop)]
+#[derive(Clone, Copy)]
 pub struct Command {
     pub op: u64,
     pub a: u64,
@@ -138,7 +139,7 @@ pub struct Command {
 }
 
 // What a command gives: 0 or the number of the first failed check, the five values, the next record.
-#[derive(Drop)]
+#[derive(Clone, Copy)]
 pub struct Outcome {
     pub answer: u64,
     pub values: Words,

@@ -1,5 +1,7 @@
 // Writing numbers in decimal into a lent buffer, digit by digit or two at a time. Each function writes one text at an
 // index, leaves every other byte as it was, and returns the index behind the text. Document 01, "Command sheet".
+#![tactic(auto)]
+
 ghost use Rattle.std.specs.Prelude.{◌+◌, ◌<◌, ◌≤◌, [], ◌∷◌, length};
 ghost use Rattle.text.specs.Text.{decimal};
 ghost use Rattle.numerals.specs.Pair.{pair};

@@ -1,6 +1,8 @@
 // Ops 1 to 8 on a record that has passed their checks: each function is one op, or the write or the read of op 2, and
 // returns the change to the record that a definition of the model's specs/Execute.antt gives. Document 01, "Command
 // sheet" and "The five words"; the adjustment that waits, document 02, A.4.
+#![tactic(auto)]
+
 ghost use Rattle.std.specs.Prelude.{◌≡◌, false, ◌<◌, ◌^◌};
 ghost use Rattle.model.specs.Words.{no_words};
 ghost use Rattle.model.specs.Fifo.{is_empty, entry};

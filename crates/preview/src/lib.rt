@@ -1,6 +1,8 @@
 // Op 10, a preview: where the clock would end after an adjust write from the present words and so many ticks, by
 // formula on clock and steering alone, and what would refuse one of them first. The result is the model's preview,
 // which goes tick by tick on a copy of the record. Document 02, A.5.
+#![tactic(auto)]
+
 ghost use Rattle.std.specs.Prelude.{◌≡◌, true};
 ghost use Rattle.model.specs.Ranges.{valid};
 ghost use Rattle.model.specs.Execute.{execute};

@@ -1,6 +1,8 @@
 // The cycle in which an edge or the end of time falls, by formula. Each function returns a definition of
 // specs/Reach.antt. A stretch brings less than a second, so that every number fits into 64 bits. Document 02, A.1 and
 // A.4.
+#![tactic(auto)]
+
 ghost use Rattle.std.specs.Prelude.{◌≡◌, true, ◌+◌, ◌*◌, ◌<◌, ◌^◌};
 ghost use Rattle.model.specs.Ranges.{steering_ok};
 ghost use Rattle.elapse.specs.Seconds.{second};

@@ -1,6 +1,8 @@
 // The engine record: its generators by number, and the record with a part replaced. Every change of the record but a
 // tick's goes through these, so that a new part is a local edit. Each function returns a definition of the model's
 // specs/Record.antt.
+#![tactic(auto)]
+
 ghost use Rattle.std.specs.Prelude.{◌≡◌};
 ghost use Rattle.model.specs.Record.{with_clock, with_steering, with_generators, with_interrupts, with_words};
 ghost use Rattle.model.specs.Record.{generator, with_generator};

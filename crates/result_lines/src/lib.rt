@@ -1,5 +1,7 @@
 // One line of results into a lent buffer: sheet line, answer and five values, with a short way where all but the line
 // are 0. The text is the definition `resultLine` of text's specs/Results.antt. Document 01, "Command sheet".
+#![tactic(auto)]
+
 ghost use Rattle.std.specs.Prelude.{◌+◌, ◌≤◌, ◌≡◌, length};
 ghost use Rattle.text.specs.Results.{result_line};
 ghost use Rattle.numerals.specs.Written.{Written};

@@ -1,5 +1,7 @@
 // Op 9, a run of ticks without inputs, in a few divisions however long it is: the stretch without an edge by formula,
 // then one tick where an edge falls. The result is the model's run, which goes tick by tick. Document 02, A.1.
+#![tactic(auto)]
+
 ghost use Rattle.std.specs.Prelude.{◌≡◌, true, ◌≤◌};
 ghost use Rattle.model.specs.RunLine.{one_tick, run as run_spec};
 ghost use Rattle.model.specs.Elapse.{amount_of};

@@ -1,5 +1,7 @@
 // Reading a command sheet as a whole, numbers 1 to 3. Each function returns a definition of text's specs/Text.antt,
 // specs/Forms.antt and specs/Sheet.antt. Document 01, "Command sheet".
+#![tactic(auto)]
+
 ghost use Rattle.std.specs.Prelude.{◌≡◌, ◌≤◌, length, drop};
 ghost use Rattle.text.specs.Text.{line_end, parts, starts_with};
 ghost use Rattle.text.specs.Forms.{refused_at, head_verdict};

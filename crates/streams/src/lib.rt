@@ -1,10 +1,12 @@
 // A command sheet on one descriptor, its results on another: what the programs over the runner share. No contract can
 // say what is read and written, so the functions here only move bytes; `runner::run_sheet` does the work.
+#![tactic(auto)]
+
 ghost use Rattle.std.specs.Prelude.{◌≡◌, ◌+◌, ◌≤◌, length, take};
 ghost use Rattle.text.specs.Results.{results as results_spec};
 
 // What was read: whether no read failed, and how many bytes came.
-#[derive(Drop)]
+#[derive(Clone, Copy)]
 struct Input {
     ok: bool,
     count: usize,

@@ -1,5 +1,7 @@
 // Tests as calls: both, either, implies, and a choice of numbers. A call joins no branches in its caller, so that a
 // long list of tests is straight code with one return.
+#![tactic(auto)]
+
 ghost use Rattle.std.specs.Prelude.{◌≡◌, ◌&&◌, ◌||◌, not, cond};
 
 pub fn both(a: bool, b: bool) -> bool

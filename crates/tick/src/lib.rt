@@ -1,6 +1,8 @@
 // Op 0, one reference cycle: the clock, the adjustment, the three timestampers and the two event generators move at
 // once, each worked out from the record before the tick, and the events are latched. Document 01, "The clock" and
 // "Stamps and generators".
+#![tactic(auto)]
+
 ghost use Rattle.std.specs.Prelude.{◌≡◌, true};
 ghost use Rattle.model.specs.Tick.{tick_engine, tick_values};
 ghost use Rattle.model.specs.Ranges.{valid};
@@ -15,7 +17,7 @@ use tests::either;
 use words::no_words;
 
 // What a tick makes of the two generators: their codes as values, the generators after it, and the latched bits.
-#[derive(Drop)]
+#[derive(Clone, Copy)]
 struct Outputs {
     values: Words,
     generator1: Generator,
@@ -50,7 +52,7 @@ fn advance_outputs(e: Engine, next: Clock, step: u64, latched: u64) -> Outputs
 }
 
 // What a tick makes of the three inputs: whether an edge is stored, and the latched bits.
-#[derive(Drop)]
+#[derive(Clone, Copy)]
 struct Inputs {
     stored: bool,
     latched: u64,

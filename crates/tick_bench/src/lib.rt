@@ -1,5 +1,7 @@
 // What the benchmark of reference/ links beside the static library: so many ticks with no sheet around them, on a
 // record that stays in place, with check 4 before each or without.
+#![tactic(auto)]
+
 ghost use Rattle.std.specs.Prelude.{◌≡◌, true};
 ghost use Rattle.model.specs.Ranges.{valid};
 ghost use Rattle.model.specs.Run.{engine_after};
@@ -37,7 +39,7 @@ fn prepared(cycles: u64, edges: u64) -> Engine
 }
 
 // The record after ticks, and the bits of every answer and code told on the way, so that none is left out.
-#[derive(Drop)]
+#[derive(Clone, Copy)]
 struct Run {
     engine: Engine,
     told: u64,

@@ -1,6 +1,8 @@
 // Value lines that are known by their bytes: a tick without inputs, as most lines are, and an op that has only a number
 // of ticks. Each function returns a definition of text's specs/Sheet.antt or of specs/. Document 01, "Command sheet";
 // document 02, A.1 and A.5.
+#![tactic(auto)]
+
 ghost use Rattle.std.specs.Prelude.{◌≡◌, true, ◌+◌, ◌≤◌, length, drop};
 ghost use Rattle.text.specs.Text.{starts_with};
 ghost use Rattle.text.specs.Sheet.{command_of};
@@ -64,7 +66,7 @@ pub fn is_tick_at(s: &[u8], at: usize) -> bool
 
 // What stands at an index: what the value line there reads as, and where the part that was read ends, which is at its
 // line end where it is a line.
-#[derive(Drop)]
+#[derive(Clone, Copy)]
 pub struct Next {
     pub line: Line,
     pub end: usize,
@@ -72,7 +74,7 @@ pub struct Next {
 
 // How a value line begins that has nothing but a number of ticks: the op, 9 or 10, and where the number begins; op 0
 // where it begins otherwise.
-#[derive(Drop)]
+#[derive(Clone, Copy)]
 pub struct Begun {
     pub op: u64,
     pub from: usize,

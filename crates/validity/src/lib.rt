@@ -1,6 +1,8 @@
 // The record's check: number 4. One function for each part of the record, and the whole. Each returns a definition
 // of the model's specs/Ranges.antt. The clock comes first: a pending instant is compared with it place by place.
 // Document 01, "Where each command is checked", below the table.
+#![tactic(auto)]
+
 ghost use Rattle.std.specs.Prelude.{◌≡◌};
 ghost use Rattle.model.specs.Tests.{every};
 ghost use Rattle.model.specs.Clock.{shown};

@@ -1,6 +1,8 @@
 // The values of a line of a command sheet: one at an index, up to its comma, with short ways for one digit and two;
 // those at the front of a line; and some bytes as a number. Each function returns a definition of specs/. Document 01,
 // "Command sheet"; document 02, A.6.
+#![tactic(auto)]
+
 ghost use Rattle.std.specs.Prelude.{◌≡◌, ◌+◌, ◌^◌, ◌<◌, ◌≤◌, length};
 ghost use Rattle.values.specs.Bytes.{pair_at, four_at, eight_at};
 ghost use Rattle.values.specs.Taking.{RunTo, DigitAt, TwoAt, TakenAt};
@@ -71,7 +73,7 @@ fn two_at(s: &[u8], at: usize) -> u64
 }
 
 // A value, and where it ends: at the next comma, or where none follows, at the end of the text.
-#[derive(Drop)]
+#[derive(Clone, Copy)]
 pub struct Taken {
     pub value: Value,
     pub end: usize,
@@ -117,7 +119,7 @@ pub fn take_value(s: &[u8], at: usize) -> Taken
 
 // The values at the front of a line: whether there is one for each place, and where the rest of the line begins, or
 // what is no value.
-#[derive(Drop)]
+#[derive(Clone, Copy)]
 pub struct Front {
     pub ok: bool,
     pub end: usize,

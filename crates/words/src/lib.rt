@@ -1,6 +1,8 @@
 // The five words: shifts and masks join and split 16-bit words into seconds, NS, FRAC and COUNT. Each function
 // returns a definition of the model's specs/Words.antt. Document 01, "The five words"; sheet 000, Tables 7-3 and
 // 7-4.
+#![tactic(auto)]
+
 ghost use Rattle.std.specs.Prelude.{◌≡◌, ◌≤◌};
 ghost use Rattle.model.specs.Bounds.{WordsRange};
 ghost use Rattle.model.specs.Words.{seconds_in, nanoseconds_in, above_nanoseconds, time_words, no_words};

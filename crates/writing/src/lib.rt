@@ -1,5 +1,7 @@
 // Writing into a lent buffer: fixed texts, and rows of numbers. Each function writes one text at an index, leaves every
 // other byte as it was, and returns the index behind the text. Document 01, "Command sheet".
+#![tactic(auto)]
+
 ghost use Rattle.std.specs.Prelude.{◌+◌, ◌<◌, ◌≤◌, length};
 ghost use Rattle.text.specs.Text.{row};
 ghost use Rattle.numerals.specs.Written.{Written};

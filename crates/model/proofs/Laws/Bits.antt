@@ -106,7 +106,10 @@ only_bits_latch_in mask (k ∷ ks) (event ∷ events) x t h =
     let l = ltb-true k 16 first.0 in
     let m = eqb-true (bit k mask) 1 first.1 in
     only_bits_latch_in mask ks events (cond event (with_bit k x) x) parts.1
-    (elim event [ true ↦ only_bits_with mask k x l m h | false ↦ h ])
+    (elim event as (λ b. only_bits mask (cond b (with_bit k x) x) ≡ true) [
+      | true ↦ only_bits_with mask k x l m h
+      | false ↦ h
+    ])
 
 pub only_bits_latch : (events : List Bool) (x : ℕ) → only_bits latched_mask x ≡ true
     → only_bits latched_mask (latch positions events x) ≡ true
