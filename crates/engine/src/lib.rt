@@ -1,5 +1,5 @@
 // The time engine: power-on; what a command changes of a valid record, for callers that keep it in place; and one
-// command on a valid record or on any, by value. They are the model's powerOn and execute, for every record and every
+// command on a valid record or on any, by value. They are the model's power_on and execute, for every record and every
 // command. Document 01, "Command sheet" and "Where each command is checked".
 #![tactic(auto)]
 

@@ -1,5 +1,5 @@
 -- Demand 3, against the ledger of document 01: one statement over every list of commands from power-on. The record
--- after the list is `engineAfter cs`; `ledgerAfter cs` is the ledger, with the returned edges under each order, kept
+-- after the list is `engine_after cs`; `ledger_after cs` is the ledger, with the returned edges under each order, kept
 -- from the commands, answers and values alone.
 --
 -- To read it beside document 01: specs/Fractions.antt (`over 1 256` is 1/256; fractions are compared and added by

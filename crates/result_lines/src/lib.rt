@@ -1,5 +1,5 @@
 // One line of results into a lent buffer: sheet line, answer and five values, with a short way where all but the line
-// are 0. The text is the definition `resultLine` of text's specs/Results.antt. Document 01, "Command sheet".
+// are 0. The text is the definition `result_line` of text's specs/Results.antt. Document 01, "Command sheet".
 #![tactic(auto)]
 
 ghost use Rattle.std.specs.Prelude.{◌+◌, ◌≤◌, ◌≡◌, length};

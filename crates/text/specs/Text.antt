@@ -1,7 +1,6 @@
 -- Text as a list of bytes: digits, values, the parts between separators, and numbers written in decimal and in base 16.
 -- Document 01, "Command sheet"; document 02, A.6.
 use Prim.Native.Char.{code}
-use Prim.Native.String as String
 use Prim.Native.String.{String}
 use Rattle.std.specs.Prelude.{ℕ, zero, suc, ◌+◌, ◌*◌, ◌-◌, ◌/◌, ◌%◌, ◌^◌, ◌≡◌, List, [], ◌∷◌, ◌++◌, Bool, true, false, ◌&&◌, ◌||◌, not, cond, eqb, leb, ltb, get_or, drop}
 use Rattle.text.specs.declared.Value.{Value}

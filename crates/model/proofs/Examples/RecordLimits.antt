@@ -1,7 +1,7 @@
 -- Number 4: records at each limit of its ranges, and one step beyond it, with the answer that op 8, which asks nothing
 -- else, gets on them. Document 01, "Where each command is checked", below the table; the waiting adjustment, document
 -- 02, A.4.
-use Prim.Native.Nat.{ℕ, ◌+◌, ◌*◌, ◌-◌, ◌^◌}
+use Prim.Native.Nat.{ℕ, ◌*◌, ◌-◌, ◌^◌}
 use mathlib.Core.List.{List, [], ◌∷◌, ◌++◌, map}
 use lib.ListN.{set, replicate}
 use Rattle.model.specs.declared.Adjustment.{Adjustment}

@@ -59,7 +59,7 @@ bit_with_other j k x n = rw with_bit_or (bit_or_lem j x (2 ^ k) ∙ rw (other j 
 pub with_bit_lt : (n k x : ℕ) → k < n → x < 2 ^ n → with_bit k x < 2 ^ n
 with_bit_lt n k x h l = rw with_bit_or (or_lt n x (2 ^ k) l (pow-lt h))
 
--- what the test onlyBits says: a bound on the word, and one on each of its bits
+-- what the test only_bits says: a bound on the word, and one on each of its bits
 abbrev within : ℕ → ℕ → ℕ → Bool
 within mask word j = leb (bit j word) (bit j mask)
 

@@ -1,7 +1,7 @@
 -- Ops 11 and 12. What op 11 adds is below 2^50, so it leaves 64 signed bits only at their upper end, and its four words
 -- write its pattern; the seconds that are split off a field which began at zero are the departure's low four bits, and
 -- with them any software second of the sixteen up to the departure counts on to it.
-use Prim.Native.Nat.{ℕ, ◌+◌, ◌*◌, ◌-◌, ◌/◌, ◌%◌, ◌^◌, ◌≤◌, ◌<◌}
+use Prim.Native.Nat.{ℕ, ◌+◌, ◌*◌, ◌/◌, ◌%◌, ◌^◌, ◌≤◌, ◌<◌}
 use mathlib.Core.Path.{◌≡◌, refl, ap, ◌∙◌}
 use mathlib.Core.Logic.{◌⊎◌}
 use mathlib.Core.Bool.{true, false, not, and-false}

@@ -37,7 +37,7 @@ rising_small : (low : Bool) → cond low 0 1 ≤ 1
 rising_small true = omega arith
 rising_small false = omega arith
 
--- the tests of `timestampOk` and of `timestampZero`
+-- the tests of `timestamp_ok` and of `timestamp_zero`
 abbrev timestamp_tests : Timestamp → List Bool
 timestamp_tests t = seconds_ok t.seconds ∷ nanoseconds_ok t.nanoseconds ∷ leb t.rising 1 ∷ []
 
@@ -61,7 +61,7 @@ place_unused : (f : Fifo) (i : ℕ) → f.count ≤ i → place_ok f i ≡ times
 unfolding place_ok
 place_unused f i h = rw (le-ltb i f.count h)
 
--- what `fifoOk` tests, as facts
+-- what `fifo_ok` tests, as facts
 record InRange (f : Fifo) : Type 0 where
   few : f.count ≤ 8
   places : (i : ℕ) → i < 8 → place_ok f i ≡ true

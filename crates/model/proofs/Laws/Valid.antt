@@ -11,7 +11,6 @@ use borrow.Author.Tests.{not-true, ltb-true, leb-true, eqb-false, eq-eqb, le-leb
 use Rattle.model.specs.declared.Engine.{Engine}
 use Rattle.model.specs.declared.Command.{Command}
 use Rattle.model.specs.declared.Outcome.{Outcome}
-use Rattle.model.specs.declared.Words.{Words}
 use Rattle.model.specs.Words
 use Rattle.model.specs.Clock.{shown}
 use Rattle.model.specs.Fifo.{is_empty}

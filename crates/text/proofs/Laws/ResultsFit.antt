@@ -1,4 +1,4 @@
--- Why the results of every sheet fit into `resultsRoom` bytes. A line number below 10,000, an answer of two digits and
+-- Why the results of every sheet fit into `results_room` bytes. A line number below 10,000, an answer of two digits and
 -- five 16-bit values make at most 38 bytes with commas and line end; an accepted sheet has at most 3,639 value lines,
 -- and a refused sheet has one line of results.
 use Prim.Native.Nat.{ℕ, ◌+◌, ◌*◌, ◌<◌, ◌≤◌, ◌^◌}
