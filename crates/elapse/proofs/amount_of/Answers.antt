@@ -7,7 +7,7 @@ use Rattle.model.specs.Elapse.{amount_of}
 use Rattle.model.proofs.Laws.InRange.{steering_in}
 use Rattle.elapse.proofs.Numbers.{amount_low, in_none, in_first, in_second_lem, in_third, product_fits}
 use Rattle.elapse.proofs.amount_of.Goals as goal
-use Rattle.elapse.proofs.amount_of.Goals.{After-struct_known-5-1, Else-rest-s, Start, Then-n-s, Then-rest-s, Then-s-eq0}
+use Rattle.elapse.proofs.amount_of.Goals.{Else-rest-s, Start, Then-n-s, Then-rest-s, Then-s-eq0}
 
 low : (p : Start) → amount_of p.args.s p.args.n < 2 ^ 60
 low p = amount_low p.args.s p.requires.0 p.args.n p.requires.1
@@ -38,48 +38,45 @@ pub overflow_mul-first : goal.overflow_mul-first
 overflow_mul-first c =
     omega (arith, product_fits _ (steering_in _ c.requires.0).running)
 
-abbrev start : After-struct_known-5-1 → Start
-start c = c
-
 second : (c : Then-rest-s)
-    → let a = (start c).args in
+    → let a = c.args in
     amount_of a.s a.n
     ≡ a.s.adjustment.cycles * a.s.adjustment.amount + (a.n - a.s.adjustment.cycles) * a.s.waiting.amount
 second c =
-    let a = (start c).args in
+    let a = c.args in
     in_second_lem a.s a.n (omega (arith, c.if-n-s.false)) c.if-rest-s.true
 
 pub overflow_mul-result-then-rest-s : goal.overflow_mul-result-then-rest-s
-overflow_mul-result-then-rest-s c = omega (arith, second (goal.at.overflow_mul-result-then-rest-s c).Then-rest-s, low (start c))
+overflow_mul-result-then-rest-s c = omega (arith, second (goal.at.overflow_mul-result-then-rest-s c).Then-rest-s, low (goal.at.overflow_mul-result-then-rest-s c).Start)
 
 pub overflow_add-result : goal.overflow_add-result
-overflow_add-result c = omega (arith, second (goal.at.overflow_add-result c).Then-rest-s, low (start c))
+overflow_add-result c = omega (arith, second (goal.at.overflow_add-result c).Then-rest-s, low (goal.at.overflow_add-result c).Start)
 
 pub returns-then-rest-s : goal.returns-then-rest-s
 returns-then-rest-s c = sym (second (goal.at.returns-then-rest-s c).Then-rest-s)
 
 -- and PERIOD's
 third : (c : Else-rest-s)
-    → let a = (start c).args in
+    → let a = c.args in
     amount_of a.s a.n
     ≡ a.s.adjustment.cycles * a.s.adjustment.amount + a.s.waiting.cycles * a.s.waiting.amount
     + (a.n - a.s.adjustment.cycles - a.s.waiting.cycles) * a.s.period
 third c =
-    let a = (start c).args in
+    let a = c.args in
     let most = c.if-rest-s.false in
     in_third a.s a.n (omega (arith, c.if-n-s.false)) (omega arith)
 
 pub overflow_mul-result-2 : goal.overflow_mul-result-2
-overflow_mul-result-2 c = omega (arith, third (goal.at.overflow_mul-result-2 c).Else-rest-s, low (start c))
+overflow_mul-result-2 c = omega (arith, third (goal.at.overflow_mul-result-2 c).Else-rest-s, low (goal.at.overflow_mul-result-2 c).Start)
 
 pub overflow_add-result-2 : goal.overflow_add-result-2
-overflow_add-result-2 c = omega (arith, third (goal.at.overflow_add-result-2 c).Else-rest-s, low (start c))
+overflow_add-result-2 c = omega (arith, third (goal.at.overflow_add-result-2 c).Else-rest-s, low (goal.at.overflow_add-result-2 c).Start)
 
 pub overflow_mul-result-3 : goal.overflow_mul-result-3
-overflow_mul-result-3 c = omega (arith, third (goal.at.overflow_mul-result-3 c).Else-rest-s, low (start c))
+overflow_mul-result-3 c = omega (arith, third (goal.at.overflow_mul-result-3 c).Else-rest-s, low (goal.at.overflow_mul-result-3 c).Start)
 
 pub overflow_add-result-3 : goal.overflow_add-result-3
-overflow_add-result-3 c = omega (arith, third (goal.at.overflow_add-result-3 c).Else-rest-s, low (start c))
+overflow_add-result-3 c = omega (arith, third (goal.at.overflow_add-result-3 c).Else-rest-s, low (goal.at.overflow_add-result-3 c).Start)
 
 pub returns : goal.returns
 returns c = sym (third (goal.at.returns c).Else-rest-s)

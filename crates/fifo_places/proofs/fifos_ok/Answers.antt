@@ -8,7 +8,6 @@ use Rattle.fifo_places.proofs.fifos_ok.Goals as goal
 pub returns : goal.returns
 unfolding fifo_ok
 returns c =
-    let few = c in
-    let args = few.args in
-    rw (c.both-2.ensures, c.places_ok.ensures, few.both-few.ensures, few.both.ensures)
+    let args = c.args in
+    rw (c.both-2.ensures, c.places_ok.ensures, c.both-few.ensures, c.both.ensures)
     (by_fifos 8 (λ f. leb f.count 8) place_ok args.fifo1 args.fifo2 args.fifo3)

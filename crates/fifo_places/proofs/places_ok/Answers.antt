@@ -5,33 +5,32 @@ use Rattle.model.specs.Tests.{every_below}
 use Rattle.model.specs.Ranges.{place_ok}
 use Rattle.fifo_places.specs.Fifos.{of_three, in_range}
 use Rattle.fifo_places.proofs.places_ok.Goals as goal
+use Rattle.fifo_places.proofs.places_ok.Goals.{After-see_place-all}
 
 none_seen : in_range (record { seconds = 0; rising = 0; rest = 0; late = false }) ≡ true
 unfolding in_range
 none_seen = refl
 
-all_seen : (c : After-see-place8)
+all_seen : (c : After-see_place-all)
     → let to7 = c in
     let fifos = to7.args in
     in_range c.see_place-all.result
     ≡ every_below 8 (λ i. of_three (λ f. place_ok f i) fifos.fifo1 fifos.fifo2 fifos.fifo3)
 all_seen c =
-    let to4 = c in
     simp (
       c.see_place-all.ensures,
       c.see_place-to7.ensures,
       c.see_place-to6.ensures,
       c.see_place-to5.ensures,
-      to4.see_place-to4.ensures,
-      to4.see_place-to3.ensures,
-      to4.see_place-to2.ensures,
-      to4.see_place-to1.ensures,
+      c.see_place-to4.ensures,
+      c.see_place-to3.ensures,
+      c.see_place-to2.ensures,
+      c.see_place-to1.ensures,
       none_seen,
     )
 
 pub returns : goal.returns
 unfolding in_range
 returns c =
-    let seen = c in
-    simp (c.both-2.ensures, c.fails.ensures, seen.both-seen.ensures, seen.both.ensures)
-    (all_seen seen)
+    simp (c.both-2.ensures, c.fails.ensures, c.both-seen.ensures, c.both.ensures)
+    (all_seen (goal.at.returns c).After-see_place-all)
