@@ -5,8 +5,8 @@ use Rattle.preview.proofs.preview.Goals as goal
 
 pub show-requires : goal.show-requires
 show-requires c = record {
-  on = c.requires.0;
-  op = c.requires.1;
+  on = c.requires.e_value;
+  op = c.requires.op_value;
   passed = sym c.refusal_before-early.ensures ∙ c.if-early-eq0.true;
 }
 
@@ -16,5 +16,5 @@ returns-then-early-eq0 c = c.show.ensures
 pub returns : goal.returns
 returns c =
     rw (c.change_to.ensures, c.no_words.ensures, c.refusal_before-early.ensures)
-    (refused_before _ _ c.requires.0 c.requires.1
+    (refused_before _ _ c.requires.e_value c.requires.op_value
     (λ z. c.if-early-eq0.false (c.refusal_before-early.ensures ∙ z)))

@@ -17,14 +17,14 @@ none_of x y is z = lt-leb 1 y (omega arith)
 
 pub returns-then-not-preview_fields : goal.returns-then-not-preview_fields
 unfolding refusal_before
-returns-then-not-preview_fields c = simp (← c.preview_fields.ensures, not-true c.preview_fields.result c.if-not-preview_fields.true)
+returns-then-not-preview_fields c = simp (← c.preview_fields.ensures, c.if-not-preview_fields.true)
 
 pub returns-then-whole_in-eq0 : goal.returns-then-whole_in-eq0
 unfolding refusal_before
 returns-then-whole_in-eq0 c =
     simp (
       ← c.preview_fields.ensures,
-      not-false c.preview_fields.result c.if-not-preview_fields.false,
+      c.if-not-preview_fields.false,
       none_of _ _ c.whole_in.ensures c.if-whole_in-eq0.true,
     )
 
@@ -36,7 +36,7 @@ unfolding refusal_before
 returns-then-count_in-eq0 c =
     simp (
       ← c.preview_fields.ensures,
-      not-false c.preview_fields.result c.if-not-preview_fields.false,
+      c.if-not-preview_fields.false,
       some_of _ _ c.whole_in.ensures c.if-whole_in-eq0.false,
       none_of _ _ c.count_in.ensures c.if-count_in-eq0.true,
     )
@@ -46,7 +46,7 @@ unfolding refusal_before
 returns-then-e-ne0 c =
     simp (
       ← c.preview_fields.ensures,
-      not-false c.preview_fields.result c.if-not-preview_fields.false,
+      c.if-not-preview_fields.false,
       some_of _ _ c.whole_in.ensures c.if-whole_in-eq0.false,
       some_of _ _ c.count_in.ensures c.if-count_in-eq0.false,
       ne_eqb _ 0 c.if-e-ne0.true,
@@ -57,7 +57,7 @@ unfolding refusal_before
 returns c =
     simp (
       ← c.preview_fields.ensures,
-      not-false c.preview_fields.result c.if-not-preview_fields.false,
+      c.if-not-preview_fields.false,
       some_of _ _ c.whole_in.ensures c.if-whole_in-eq0.false,
       some_of _ _ c.count_in.ensures c.if-count_in-eq0.false,
       eq-eqb _ 0 c.if-e-ne0.false,

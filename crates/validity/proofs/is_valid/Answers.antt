@@ -1,7 +1,6 @@
 -- A conjunction may be asked in groups: where the clock is out of range the record is not valid, else the others
 -- decide.
 use mathlib.Core.Path.{sym, ◌∙◌}
-use borrow.Author.Tests.{not-true, not-false}
 use Rattle.model.specs.Ranges.{valid}
 use Rattle.model.proofs.Laws.InRange.{clock_in}
 use Rattle.validity.proofs.Groups.{valid_by_groups}
@@ -9,19 +8,19 @@ use Rattle.validity.proofs.is_valid.Goals as goal
 
 pub returns-then-not-clock_ok : goal.returns-then-not-clock_ok
 unfolding valid
-returns-then-not-clock_ok c = simp (sym c.clock_ok.ensures ∙ not-true _ c.if-not-clock_ok.true)
+returns-then-not-clock_ok c = simp (sym c.clock_ok.ensures ∙ c.if-not-clock_ok.true)
 
 pub generator_ok-requires : goal.generator_ok-requires
 generator_ok-requires c =
-    clock_in _ (sym c.clock_ok.ensures ∙ not-false _ c.if-not-clock_ok.false)
+    clock_in _ (sym c.clock_ok.ensures ∙ c.if-not-clock_ok.false)
 
 pub generator_ok-requires-2 : goal.generator_ok-requires-2
 generator_ok-requires-2 c =
-    clock_in _ (sym c.clock_ok.ensures ∙ not-false _ c.if-not-clock_ok.false)
+    clock_in _ (sym c.clock_ok.ensures ∙ c.if-not-clock_ok.false)
 
 pub returns : goal.returns
 returns c =
-    let passed = sym c.clock_ok.ensures ∙ not-false _ c.if-not-clock_ok.false in
+    let passed = sym c.clock_ok.ensures ∙ c.if-not-clock_ok.false in
     simp (
       c.both-3.ensures,
       c.both-2.ensures,

@@ -1,0 +1,31 @@
+-- The two checks of a tick in the table's order, then the cycle.
+use mathlib.Core.Path.{sym, ◌∙◌}
+use Rattle.model.proofs.Laws.InRange.{valid_parts, clock_in}
+use Rattle.tick.proofs.Checked.{fields_refused, late_refused, ticks, cycle_gives}
+use Rattle.tick.proofs.tick.Goals as goal
+
+pub has_time_left-requires : goal.has_time_left-requires
+has_time_left-requires c =
+    let v = valid_parts _ c.requires.0 in
+    (clock_in _ v.clock, v.steering)
+
+pub cycle-requires : goal.cycle-requires
+cycle-requires c =
+    ticks _ _ c.requires.0 c.requires.1
+    (sym c.tick_fields.ensures ∙ c.if-tick_fields.true)
+    (sym c.has_time_left.ensures ∙ c.if-has_time_left.true)
+
+pub returns-then-has_time_left : goal.returns-then-has_time_left
+returns-then-has_time_left c = rw c.cycle.ensures (cycle_gives _ _ (cycle_requires c tt))
+
+pub returns-then-tick_fields : goal.returns-then-tick_fields
+returns-then-tick_fields c =
+    rw (c.change_to.ensures, c.no_words.ensures)
+    (late_refused _ _ c.requires.0 c.requires.1
+    (sym c.tick_fields.ensures ∙ c.if-tick_fields.true)
+    (sym c.has_time_left.ensures ∙ c.if-has_time_left.false))
+
+pub returns : goal.returns
+returns c =
+    rw (c.change_to-2.ensures, c.no_words-2.ensures)
+    (fields_refused _ _ c.requires.0 c.requires.1 (sym c.tick_fields.ensures ∙ c.if-tick_fields.false))
