@@ -8,7 +8,7 @@ use Rattle.checks.proofs.answer.Goals as goal
 
 pub time_left-in_time-requires : goal.time_left-in_time-requires
 time_left-in_time-requires c =
-    (c.requires.0, no_later c.args.c.op c.requires.1 10 (omega arith))
+    record { e_value = c.requires.e_value; op_value = no_later c.args.c.op c.requires.op_bound 10 (omega arith) }
 
 pub returns-then-either : goal.returns-then-either
 unfolding checks
@@ -20,23 +20,23 @@ returns-then-either c =
       c.time_left-in_time.ensures,
       c.fields_ok-listed.ensures,
     )
-    (answer_of_others c.args.e c.args.c c.requires.0 c.requires.1 neither.0 neither.1)
+    (answer_of_others c.args.e c.args.c c.requires.e_value c.requires.op_bound neither.0 neither.1)
 
 pub amount_ok-amount-requires : goal.amount_ok-amount-requires
 amount_ok-amount-requires c =
-    no_later c.args.c.op c.requires.1 10 (omega arith)
+    no_later c.args.c.op c.requires.op_bound 10 (omega arith)
 
 pub count_ok-count-requires : goal.count_ok-count-requires
 count_ok-count-requires c =
-    (c.requires.0, no_later c.args.c.op c.requires.1 10 (omega arith))
+    record { e_value = c.requires.e_value; op_value = no_later c.args.c.op c.requires.op_bound 10 (omega arith) }
 
 pub waiting_free-free-requires : goal.waiting_free-free-requires
 waiting_free-free-requires c =
-    no_later c.args.c.op c.requires.1 10 (omega arith)
+    no_later c.args.c.op c.requires.op_bound 10 (omega arith)
 
 pub start_ahead-ahead-requires : goal.start_ahead-ahead-requires
 start_ahead-ahead-requires c =
-    c.requires.0
+    c.requires.e_value
 
 pub returns : goal.returns
 unfolding checks
@@ -63,4 +63,4 @@ returns c =
       c.time_left-in_time.ensures,
       c.fields_ok-listed.ensures,
     )
-    (answer_found _ _ c.requires.0 c.requires.1)
+    (answer_found _ _ c.requires.e_value c.requires.op_bound)

@@ -5,9 +5,9 @@ use Rattle.model.proofs.Laws.InRange.{valid_parts, words_in}
 use Rattle.checks.proofs.count_ok.Goals as goal
 
 pub count_in-requires : goal.count_in-requires
-count_in-requires c = words_in _ (valid_parts _ c.requires.0).words
+count_in-requires c = words_in _ (valid_parts _ c.requires.e_value).words
 
 pub returns : goal.returns
 unfolding checks
 returns c =
-    simp (c.implies.ensures, c.count_in.ensures, c.writes.ensures, c.requires.1, or-false)
+    simp (c.implies.ensures, c.count_in.ensures, c.writes.ensures, c.requires.op_value, or-false)

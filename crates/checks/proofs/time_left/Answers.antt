@@ -6,7 +6,7 @@ use Rattle.checks.proofs.time_left.Goals as goal
 
 pub has_time_left-requires : goal.has_time_left-requires
 has_time_left-requires c =
-    let v = valid_parts _ c.requires.0 in
+    let v = valid_parts _ c.requires.e_value in
     (clock_in _ v.clock, v.steering)
 
 pub returns : goal.returns
@@ -16,6 +16,6 @@ returns c =
       c.implies.ensures,
       c.has_time_left.ensures,
       c.either.ensures,
-      c.requires.1,
+      c.requires.op_value,
       or-false,
     )

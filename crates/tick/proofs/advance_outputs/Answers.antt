@@ -5,10 +5,10 @@ use Rattle.tick.proofs.Causes.{event_placed, sequence_placed}
 use Rattle.tick.proofs.advance_outputs.Goals as goal
 
 pub advance-one-requires : goal.advance-one-requires
-advance-one-requires c = c.requires.generator1-1
+advance-one-requires c = c.requires.generator1
 
 pub advance-two-requires : goal.advance-two-requires
-advance-two-requires c = c.requires.generator2-1
+advance-two-requires c = c.requires.generator2
 
 pub returns : goal.returns
 unfolding outputs_of advance_of

@@ -6,26 +6,31 @@ use Rattle.tick.proofs.tick.Goals as goal
 
 pub has_time_left-requires : goal.has_time_left-requires
 has_time_left-requires c =
-    let v = valid_parts _ c.requires.0 in
+    let v = valid_parts _ c.requires.e_value in
     (clock_in _ v.clock, v.steering)
 
 pub cycle-requires : goal.cycle-requires
 cycle-requires c =
-    ticks _ _ c.requires.0 c.requires.1
+    ticks _ _ c.requires.e_value c.requires.op_value
     (sym c.tick_fields.ensures ∙ c.if-tick_fields.true)
     (sym c.has_time_left.ensures ∙ c.if-has_time_left.true)
 
 pub returns-then-has_time_left : goal.returns-then-has_time_left
-returns-then-has_time_left c = rw c.cycle.ensures (cycle_gives _ _ (cycle_requires c tt))
+returns-then-has_time_left c =
+    rw c.cycle.ensures
+    (cycle_gives _ _
+    (ticks _ _ c.requires.e_value c.requires.op_value
+    (sym c.tick_fields.ensures ∙ c.if-tick_fields.true)
+    (sym c.has_time_left.ensures ∙ c.if-has_time_left.true)))
 
 pub returns-then-tick_fields : goal.returns-then-tick_fields
 returns-then-tick_fields c =
     rw (c.change_to.ensures, c.no_words.ensures)
-    (late_refused _ _ c.requires.0 c.requires.1
+    (late_refused _ _ c.requires.e_value c.requires.op_value
     (sym c.tick_fields.ensures ∙ c.if-tick_fields.true)
     (sym c.has_time_left.ensures ∙ c.if-has_time_left.false))
 
 pub returns : goal.returns
 returns c =
     rw (c.change_to-2.ensures, c.no_words-2.ensures)
-    (fields_refused _ _ c.requires.0 c.requires.1 (sym c.tick_fields.ensures ∙ c.if-tick_fields.false))
+    (fields_refused _ _ c.requires.e_value c.requires.op_value (sym c.tick_fields.ensures ∙ c.if-tick_fields.false))
