@@ -1,7 +1,6 @@
 -- Op 11 or 12 on a valid record has the check of its fields and its own number; no other check of the table speaks of
 -- it. It changes nothing, accepted or refused.
 use Rattle.std.proofs.Common.{◌≡◌, ℕ, ◌+◌, ◌-◌, ◌%◌, ◌^◌, ◌<◌, ◌≤◌, Bool, true, false, cond, not, ltb, sym, refl, ◌∙◌, arith, ltb-true}
-use borrow.Author.Tests.{not-true, not-false}
 use Rattle.model.specs.declared.Engine.{Engine}
 use Rattle.model.specs.declared.Command.{Command}
 use Rattle.model.specs.Tests.{every}
@@ -16,13 +15,6 @@ use Rattle.model.proofs.Laws.Testing.{facts}
 use Rattle.model.proofs.Laws.Departures as Law
 use Rattle.change.specs.Changes.{change_to, Gives}
 use Rattle.change.proofs.Given.{refused_gives, others_still}
-
--- a test by what its negation said
-pub held : {t : Bool} (r : Bool) → r ≡ t → not r ≡ false → t ≡ true
-held r is h = sym is ∙ not-false r h
-
-pub failed : {t : Bool} (r : Bool) → r ≡ t → not r ≡ true → t ≡ false
-failed r is h = sym is ∙ not-true r h
 
 module _ (e : Engine) (c : Command) (v : valid e ≡ true) (o : c.op ≡ 11) where
   depart_answer : answer_of e c

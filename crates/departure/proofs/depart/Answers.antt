@@ -2,26 +2,27 @@
 use Rattle.std.proofs.Common.{sym, ◌∙◌}
 use Rattle.model.specs.Departure.{stays_signed}
 use Rattle.model.proofs.Laws.Departures.{clock_range, departure_low}
-use Rattle.departure.proofs.Checked.{held, failed, depart_unlisted, depart_left, depart_gives}
+use mathlib.Core.Path.{sym, ◌∙◌}
+use Rattle.departure.proofs.Checked.{depart_unlisted, depart_left, depart_gives}
 use Rattle.departure.proofs.depart.Goals as goal
 
 pub returns-then-not-depart_fields : goal.returns-then-not-depart_fields
 returns-then-not-depart_fields c =
     rw c.refused.ensures
-    (depart_unlisted _ _ c.requires.0 c.requires.1
-    (failed c.depart_fields.result c.depart_fields.ensures c.if-not-depart_fields.true))
+    (depart_unlisted _ _ c.requires.e_value c.requires.op_value
+    (sym c.depart_fields.ensures ∙ c.if-not-depart_fields.true))
 
 pub departure-added-requires : goal.departure-added-requires
-departure-added-requires c = clock_range _ c.requires.0
+departure-added-requires c = clock_range _ c.requires.e_value
 
 pub stays_signed-requires : goal.stays_signed-requires
 stays_signed-requires c =
-    rw c.departure-added.ensures (departure_low _ (clock_range _ c.requires.0))
+    rw c.departure-added.ensures (departure_low _ (clock_range _ c.requires.e_value))
 
 pub returns-then-stays_signed : goal.returns-then-stays_signed
 unfolding stays_signed
 returns-then-stays_signed c =
-    let listed = held c.depart_fields.result c.depart_fields.ensures c.if-not-depart_fields.false in
+    let listed = sym c.depart_fields.ensures ∙ c.if-not-depart_fields.false in
     let stays = sym c.stays_signed.ensures ∙ c.if-stays_signed.true in
     rw (
       c.change_to.ensures,
@@ -29,12 +30,12 @@ returns-then-stays_signed c =
       c.wrapping_add_u64.ensures,
       c.departure-added.ensures,
     )
-    (depart_gives _ _ c.requires.0 c.requires.1 listed (rw c.departure-added.ensures at stays))
+    (depart_gives _ _ c.requires.e_value c.requires.op_value listed (rw c.departure-added.ensures at stays))
 
 pub returns : goal.returns
 unfolding stays_signed
 returns c =
-    let listed = held c.depart_fields.result c.depart_fields.ensures c.if-not-depart_fields.false in
+    let listed = sym c.depart_fields.ensures ∙ c.if-not-depart_fields.false in
     let stays = sym c.stays_signed.ensures ∙ c.if-stays_signed.false in
     rw c.refused-2.ensures
-    (depart_left _ _ c.requires.0 c.requires.1 listed (rw c.departure-added.ensures at stays))
+    (depart_left _ _ c.requires.e_value c.requires.op_value listed (rw c.departure-added.ensures at stays))
