@@ -27,7 +27,7 @@ returns-then-stays_signed c =
     rw (
       c.change_to.ensures,
       c.four_words-words.ensures,
-      c.wrapping_add_u64.ensures,
+      c.wrapping_add_u64.ensures.value,
       c.departure-added.ensures,
     )
     (depart_gives _ _ c.requires.e_value c.requires.op_value listed (rw c.departure-added.ensures at stays))
