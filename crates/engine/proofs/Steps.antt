@@ -1,6 +1,6 @@
 -- Accepted or refused, a change is the model's outcome, which has a valid record again where the record was valid; a
 -- record that is not valid is refused with 4; and the latched bits of an accepted command's record are 16 bits.
-use Prim.Native.Nat.{ℕ, ◌<◌, ◌^◌}
+use Prim.Native.Nat.{ℕ, ◌<◌, ◌≤◌, ◌^◌}
 use mathlib.Core.Path.{◌≡◌, refl, sym, ap, subst, ◌∙◌}
 use mathlib.Core.Bool.{true, false}
 use native.Mathlib.Omega.{arith}
@@ -19,7 +19,6 @@ use Rattle.model.specs.Execute.{execute}
 use Rattle.model.proofs.Laws.InRange.{valid_parts}
 use Rattle.model.proofs.Laws.Parts.{interrupts_in}
 use Rattle.model.proofs.Laws.Bits.{only_bits_lt}
-use Rattle.model.proofs.Laws.Tables.{NoneOf, past_arms}
 use Rattle.model.proofs.Laws.Accepting.{accepted_facts, performed_row}
 use Rattle.model.proofs.Laws.Valid.{execute_valid}
 use Rattle.change.specs.declared.Change.{Change}
@@ -29,12 +28,8 @@ use Rattle.engine.specs.Stepped.{Performing, Stepped}
 
 module _ (e : Engine) (c : Command) where
   -- an op that is none of 0 to 7 is the last arm's
-  pub last_op : Performing e c → NoneOf 1 7 c.op → c.op ≡ 8
-  last_op start none =
-      let some = eqb-false c.op 0 start.no_tick in
-      let few = start.few in
-      let past = past_arms 1 7 c.op (omega arith) none in
-      omega arith
+  pub last_op : Performing e c → 8 ≤ c.op → c.op ≡ 8
+  last_op start past = omega (arith, start.few)
 
   -- an op is its row of the table; one that is neither 0 nor 2 moves no FIFO
   pub row_gives : {m : Change} (n : ℕ) → c.op ≡ n → Gives e c (get_or ops n unknown e c) m → Gives e c (performed e c) m
