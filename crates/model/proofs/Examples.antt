@@ -3,12 +3,12 @@
 -- records and fields. Each holds because the definitions compute: a run from power-on gives the numbers that the papers
 -- state or that were worked out from them. With the examples of sheets it is the list of the crate text.
 use mathlib.Core.Path.{◌≡◌, refl}
-use mathlib.Core.List.{List, ◌++◌}
+use mathlib.Core.List.{List, ◌++◌, map}
 use mathlib.Core.Bool.{true}
-use Rattle.model.proofs.Examples.Runs.{Example, by_execute, answers, last_values, values}
-use Rattle.model.proofs.Examples.Stated.{found_by, stated_in, same, as_stated, stated_equal}
+use Rattle.model.specs.Run.{engine_by, history_by}
+use Rattle.model.proofs.Examples.Runs.{Example, answers, last_values, values}
+use Rattle.model.proofs.Examples.Stated.{same, as_stated, stated_equal}
 use Rattle.model.proofs.Examples.Opened.{opened}
-use Rattle.model.proofs.Examples.Quick.{quick, quickly, quickly_is_by_execute}
 use Rattle.model.proofs.Examples.Starred.{shown_after, edge_at, edges_from, starred}
 use Rattle.model.proofs.Examples.Cells.{time_cell, amount_cell, count_cell, refused_cell, cells}
 use Rattle.model.proofs.Examples.RunsOfTicks.{run_lines}
@@ -22,7 +22,6 @@ use Rattle.model.proofs.Examples.FieldLimits.{field_limits, answers_to}
 pub mod Runs
 pub mod Stated
 pub mod Opened
-pub mod Quick
 pub mod Starred
 pub mod Cells
 pub mod RunsOfTicks
@@ -37,12 +36,12 @@ pub examples : List Example
 examples =
     starred ++ cells ++ run_lines ++ adjustments ++ previews ++ departures ++ timestamps ++ record_limits ++ field_limits
 
-examples_tested : as_stated quickly examples ≡ true
+examples_tested : as_stated examples ≡ true
 unfolding examples starred cells run_lines adjustments previews departures timestamps record_limits field_limits
-    answers_on answers_to time_cell amount_cell count_cell refused_cell answers last_values values shown_after edge_at edges_from
-    as_stated same quickly quick opened
+    answers_on answers_to time_cell amount_cell count_cell refused_cell answers last_values values shown_after edge_at
+    edges_from as_stated same engine_by history_by opened
 examples_tested = refl
 
--- every example is as stated, by `execute`
-pub examples_hold : found_by by_execute examples ≡ stated_in examples
-examples_hold = rw (← quickly_is_by_execute) (stated_equal quickly examples examples_tested)
+-- every example is as stated
+pub examples_hold : map (λ (x : Example). x.found) examples ≡ map (λ (x : Example). x.stated) examples
+examples_hold = stated_equal examples examples_tested

@@ -1,10 +1,10 @@
 -- Every example, as one list proved by one statement: those of the engine, with the starred ones of document 01; then
 -- sheets, among them the two that are starred, and values in base 16. Each holds because the definitions compute.
 use mathlib.Core.Path.{◌≡◌, refl}
-use mathlib.Core.List.{List, ◌++◌, map-append}
+use mathlib.Core.List.{List, ◌++◌, map, map-append}
 use mathlib.Core.Bool.{true}
-use Rattle.model.proofs.Examples.Runs.{Way, Example, by_execute}
-use Rattle.model.proofs.Examples.Stated.{found_by, stated_in, same, as_stated, stated_equal}
+use Rattle.model.proofs.Examples.Runs.{Example}
+use Rattle.model.proofs.Examples.Stated.{same, as_stated, stated_equal}
 use Rattle.model.proofs.Examples.Opened.{opened}
 use Rattle.model.proofs.Examples as Engine
 use Rattle.text.specs.Text
@@ -19,8 +19,7 @@ pub mod Writings
 abbrev texts : List Example
 texts = sheets ++ writings
 
--- no list of them is run but by `results`, so any way will do
-texts_tested : as_stated by_execute texts ≡ true
+texts_tested : as_stated texts ≡ true
 unfolding sheets writings told told_of verdict as_stated same opened Text.is_number Text.is_value Text.number_of
     Forms.reads_line Forms.row_in Forms.head_verdict Forms.verdict_of Sheet.command_sheet Sheet.commands_in Text.value_of
     Text.decimal Text.base16 Results.results
@@ -29,13 +28,13 @@ texts_tested = refl
 pub examples : List Example
 examples = Engine.examples ++ texts
 
--- every example is as stated, by `execute`
-pub examples_hold : found_by by_execute examples ≡ stated_in examples
+-- every example is as stated
+pub examples_hold : map (λ (x : Example). x.found) examples ≡ map (λ (x : Example). x.stated) examples
 unfolding examples
 examples_hold =
     rw (
-      map-append (λ (x : Example). x.found by_execute) Engine.examples texts,
+      map-append (λ (x : Example). x.found) Engine.examples texts,
       map-append (λ (x : Example). x.stated) Engine.examples texts,
       Engine.examples_hold,
-      stated_equal by_execute texts texts_tested,
+      stated_equal texts texts_tested,
     )

@@ -80,8 +80,7 @@ fn ticked(from: Run, code: u64, n: u64, checked: bool) -> Run
 
 // After these commands and so many ticks with an edge on each input, n ticks with a code on each, the record checked
 // before each of these where `checked` is 1: the nanoseconds shown at the end with the bits of all that was told.
-#[unsafe(no_mangle)]
-pub extern "C" fn tick_bench_ticks(
+pub fn tick_bench_ticks(
     n: u64,
     cycles: u64,
     edges: u64,

@@ -1,6 +1,6 @@
 -- A text of one byte is its digit after 0. Else a digit more is ten times the number and the digit: so while the bytes
 -- make a number that fits those that are left decide.
-use Prim.Native.Nat.{◌-◌, ◌^◌}
+use Prim.Native.Nat.{◌^◌}
 use mathlib.Core.Path.{sym, ◌∙◌}
 use native.Mathlib.Omega.{arith}
 use lib.ListN.{drop_of_length-le}

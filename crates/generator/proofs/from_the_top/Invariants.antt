@@ -1,6 +1,6 @@
 -- While an eighth starts after the instant, those below it give the whole answer; eighth 0 never does, so the search
 -- ends.
-use Prim.Native.Nat.{ℕ, ◌*◌, ◌-◌, ◌≤◌}
+use Prim.Native.Nat.{ℕ, ◌*◌, ◌≤◌}
 use mathlib.Core.Path.{◌≡◌}
 use lib.Dec.{leb}
 use Rattle.model.specs.Generator.{first_of}

@@ -3,6 +3,7 @@
 use Prim.Native.Nat.{ℕ, ◌+◌, ◌^◌}
 use mathlib.Core.List.{List, [], ◌∷◌, ◌++◌}
 use Rattle.model.specs.declared.Command.{Command}
+use Rattle.model.specs.Run.{engine_after}
 use Rattle.model.proofs.Examples.Runs.{Example, line, load, write, read, answers, values}
 
 -- write 0: the seconds and nanoseconds that the clock then has; and reads 0 to 3, the timestamps being those of edges
@@ -13,21 +14,21 @@ time_cell w1 w2 w3 w4 w5 seconds nanoseconds =
     let stamped = set ++ line 0 1 9 1 0 0 ∷ [] in
     let words : ℕ → List ℕ = λ edge. w1 ∷ w2 ∷ w3 ∷ w4 ∷ (w5 + edge) ∷ [] in
     record {
-      found = λ w.
-          (w.after set).clock.seconds ∷ (w.after set).clock.nanoseconds
-          ∷ values (set ++ read 0 ∷ []) w
-          ++ values (stamped ++ read 1 ∷ []) w
-          ++ values (stamped ++ read 2 ∷ []) w
-          ++ values (stamped ++ read 3 ∷ []) w;
+      found =
+          (engine_after set).clock.seconds ∷ (engine_after set).clock.nanoseconds
+          ∷ values (set ++ read 0 ∷ [])
+          ++ values (stamped ++ read 1 ∷ [])
+          ++ values (stamped ++ read 2 ∷ [])
+          ++ values (stamped ++ read 3 ∷ []);
       stated = seconds ∷ nanoseconds ∷ words 0 ++ words 0 ++ words 0x8000 ++ words 0;
     }
 
 -- writes 1 and 2, which read an amount alike: PERIOD, then PER_ADJ with a COUNT of 1, both in 2^-32 ns
 unfoldable pub amount_cell : ℕ → ℕ → ℕ → ℕ → Example
 amount_cell w3 w4 w5 amount = record {
-  found = λ w.
-      (w.after (load 0xffff 0xffff w3 w4 w5 ∷ write 1 ∷ [])).steering.period
-      ∷ (w.after (load 0xffff 1 w3 w4 w5 ∷ write 2 ∷ [])).steering.adjustment.amount
+  found =
+      (engine_after (load 0xffff 0xffff w3 w4 w5 ∷ write 1 ∷ [])).steering.period
+      ∷ (engine_after (load 0xffff 1 w3 w4 w5 ∷ write 2 ∷ [])).steering.adjustment.amount
       ∷ [];
   stated = amount ∷ amount ∷ [];
 }
@@ -35,7 +36,7 @@ amount_cell w3 w4 w5 amount = record {
 -- write 2: COUNT
 unfoldable pub count_cell : ℕ → ℕ → ℕ → Example
 count_cell w2 w3 count = record {
-  found = λ w. (w.after (load 0xffff w2 w3 0 0x100 ∷ write 2 ∷ [])).steering.adjustment.cycles ∷ [];
+  found = (engine_after (load 0xffff w2 w3 0 0x100 ∷ write 2 ∷ [])).steering.adjustment.cycles ∷ [];
   stated = count ∷ [];
 }
 

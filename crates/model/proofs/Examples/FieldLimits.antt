@@ -8,14 +8,14 @@ use Rattle.model.specs.declared.Command.{Command}
 use Rattle.model.specs.Units.{ns_per_second}
 use Rattle.model.specs.Record.{power_on, with_clock}
 use Rattle.model.specs.Execute.{execute}
-use Rattle.model.proofs.Examples.Runs.{Example, plain}
+use Rattle.model.proofs.Examples.Runs.{Example}
 
 -- the answer of each command on a record
 unfoldable pub answers_to : Engine → List Command → List ℕ
 answers_to e cs = map (λ c. (execute e c).answer) cs
 
 abbrev to_each : List Command → List ℕ → Example
-to_each cs stated = plain (answers_to power_on cs) stated
+to_each cs stated = record { found = answers_to power_on cs; stated = stated }
 
 -- the last 1/256 ns
 abbrev at_the_end : Engine
@@ -100,11 +100,14 @@ field_limits =
     ∷ unlisted 6 0
     ) (0 ∷ 6 ∷ 6 ∷ 6 ∷ 6 ∷ seven_sixes)
     -- op 9: 1 to 1,000,000 ticks
-    ∷ plain (answers_to at_the_end (
-    command 9 1 0 0 0 0 0 0 0 ∷ command 9 1000000 0 0 0 0 0 0 0 ∷ command 9 0 0 0 0 0 0 0 0
-    ∷ command 9 1000001 0 0 0 0 0 0 0
-    ∷ unlisted 9 1
-    )) (15 ∷ 15 ∷ 6 ∷ 6 ∷ seven_sixes)
+    ∷ record {
+      found = answers_to at_the_end (
+          command 9 1 0 0 0 0 0 0 0 ∷ command 9 1000000 0 0 0 0 0 0 0 ∷ command 9 0 0 0 0 0 0 0 0
+          ∷ command 9 1000001 0 0 0 0 0 0 0
+          ∷ unlisted 9 1
+          );
+      stated = 15 ∷ 15 ∷ 6 ∷ 6 ∷ seven_sixes;
+    }
     -- op 10: 1 to 1,000; the words are 0, 9
     ∷ to_each (
     command 10 1 0 0 0 0 0 0 0 ∷ command 10 1000 0 0 0 0 0 0 0 ∷ command 10 0 0 0 0 0 0 0 0

@@ -1,7 +1,7 @@
 -- Number 4: records at each limit of its ranges, and one step beyond it, with the answer that op 8, which asks nothing
 -- else, gets on them. Document 01, "Where each command is checked", below the table; the waiting adjustment, document
 -- 02, A.4.
-use Prim.Native.Nat.{ℕ, ◌*◌, ◌-◌, ◌^◌}
+use Prim.Native.Nat.{ℕ, ◌+◌, ◌*◌, ◌-◌, ◌^◌}
 use mathlib.Core.List.{List, [], ◌∷◌, ◌++◌, map}
 use lib.ListN.{set, replicate}
 use Rattle.model.specs.declared.Adjustment.{Adjustment}
@@ -17,14 +17,14 @@ use Rattle.model.specs.Generator.{idle_generator}
 use Rattle.model.specs.Record.{power_on, with_clock, with_steering, with_fifos, with_generators, with_interrupts}
 use Rattle.model.specs.Record.{with_words}
 use Rattle.model.specs.Execute.{execute}
-use Rattle.model.proofs.Examples.Runs.{Example, plain, line}
+use Rattle.model.proofs.Examples.Runs.{Example, line}
 
 -- the answers on some records
 unfoldable pub answers_on : List Engine → List ℕ
 answers_on es = map (λ e. (execute e (line 8 0 0 0 0 0)).answer) es
 
 abbrev on_each : List Engine → List ℕ → Example
-on_each es stated = plain (answers_on es) stated
+on_each es stated = record { found = answers_on es; stated = stated }
 
 -- power-on with one part replaced
 abbrev clock : ℕ → ℕ → ℕ → ℕ → Engine

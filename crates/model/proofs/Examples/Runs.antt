@@ -1,27 +1,13 @@
 -- Commands as examples write them, and what a run from power-on gives.
 use Prim.Native.Nat.{ℕ}
 use mathlib.Core.List.{List, [], ◌∷◌, ◌++◌, map}
-use Rattle.model.specs.declared.Engine.{Engine}
 use Rattle.model.specs.declared.Command.{Command}
-use Rattle.model.specs.Run.{Entry, engine_after, history}
+use Rattle.model.specs.Run.{Entry, history}
 
--- how lists of commands are run from power-on: the record after one, and what was told of it
-pub record Way : Type 0 where
-  pub after : List Command → Engine
-  pub told : List Command → List Entry
-
--- the way that all statements are about
-abbrev pub by_execute : Way
-by_execute = record { after = engine_after; told = history }
-
--- an example: what is found, lists being run in some way, and what document 01 states
+-- an example: what a run gives, and what document 01 states
 pub record Example : Type 0 where
-  pub found : Way → List ℕ
+  pub found : List ℕ
   pub stated : List ℕ
-
--- one in which no list is run
-abbrev pub plain : List ℕ → List ℕ → Example
-plain found stated = record { found = λ w. found; stated = stated }
 
 -- commands
 abbrev pub line : ℕ → ℕ → ℕ → ℕ → ℕ → ℕ → Command
@@ -50,16 +36,16 @@ abbrev pub arm : ℕ → ℕ → ℕ → ℕ → ℕ → Command
 arm ns w n d count = record { op = 3; a = 1; b = 0; c = ns; d = w; e = n; f = d; g = count; h = 0 }
 
 -- the answers, and the values of the last command
-unfoldable pub answers : List Command → Way → List ℕ
-answers cs w = map (λ (x : Entry). x.answer) (w.told cs)
+unfoldable pub answers : List Command → List ℕ
+answers cs = map (λ (x : Entry). x.answer) (history cs)
 
 unfoldable pub last_values : List Entry → List ℕ
 last_values [] = []
 last_values (x ∷ []) = x.values.w1 ∷ x.values.w2 ∷ x.values.w3 ∷ x.values.w4 ∷ x.values.w5 ∷ []
 last_values (x ∷ y ∷ xs) = last_values (y ∷ xs)
 
-unfoldable pub values : List Command → Way → List ℕ
-values cs w = last_values (w.told cs)
+unfoldable pub values : List Command → List ℕ
+values cs = last_values (history cs)
 
 -- what a command behind others gives
 abbrev pub gives : List Command → Command → List ℕ → Example

@@ -10,13 +10,12 @@ use Rattle.model.specs.Clock.{shown}
 use Rattle.model.specs.Record.{record_version}
 use Rattle.model.specs.Ops.{ops}
 use Rattle.model.specs.Checks.{last_number}
-use Rattle.model.specs.Run.{Entry}
-use Rattle.model.proofs.Examples.Runs.{Example, Way, plain, line, tick, input, load, write, read, arm}
-use Rattle.model.proofs.Examples.Runs.{answers, values}
+use Rattle.model.specs.Run.{Entry, engine_after, history}
+use Rattle.model.proofs.Examples.Runs.{Example, line, tick, input, load, write, read, arm, answers, values}
 
 -- the time shown, in 1/256 ns
-unfoldable pub shown_after : List Command → Way → ℕ
-shown_after cs w = shown (w.after cs).clock
+unfoldable pub shown_after : List Command → ℕ
+shown_after cs = shown (engine_after cs).clock
 
 -- the number of each entry, from n, that returned an edge of generator 1, and the edge's code
 unfoldable pub edge_at : ℕ → ℕ → List ℕ
@@ -32,16 +31,16 @@ starred =
     record { found = values (tick ∷ read 0 ∷ []); stated = 0 ∷ 0 ∷ 0 ∷ 8 ∷ 0 ∷ [] }
     -- FRAC 0x00800000, NS 8 (words 0, 0, 0, 32768, 2048): steps 2048, 2049, 2048.
     ∷ record {
-      found = λ w.
-          shown_after (load 0 0 0 32768 2048 ∷ write 1 ∷ tick ∷ []) w
-          ∷ shown_after (load 0 0 0 32768 2048 ∷ write 1 ∷ tick ∷ tick ∷ []) w
-          ∷ shown_after (load 0 0 0 32768 2048 ∷ write 1 ∷ tick ∷ tick ∷ tick ∷ []) w
+      found =
+          shown_after (load 0 0 0 32768 2048 ∷ write 1 ∷ tick ∷ [])
+          ∷ shown_after (load 0 0 0 32768 2048 ∷ write 1 ∷ tick ∷ tick ∷ [])
+          ∷ shown_after (load 0 0 0 32768 2048 ∷ write 1 ∷ tick ∷ tick ∷ tick ∷ [])
           ∷ [];
       stated = 2048 ∷ (2048 + 2049) ∷ (2048 + 2049 + 2048) ∷ [];
     }
     -- Fresh, generator 1 from 0 s 3 ns, 256 + 1/3 ns, count 4: ticks 1, 33, 65, 97, eighths 3, 3, 3, 4, rising first.
     ∷ record {
-      found = λ w. edges_from 0 (w.told (arm 3 256 1 3 4 ∷ replicate 200 tick));
+      found = edges_from 0 (history (arm 3 256 1 3 4 ∷ replicate 200 tick));
       stated = 1 ∷ (9 + 3) ∷ 33 ∷ (1 + 3) ∷ 65 ∷ (9 + 3) ∷ 97 ∷ (1 + 4) ∷ [];
     }
     -- At 0 s 999,999,998 ns (words 4, 5: 51710, 15258), input at eighth 3: 1 s 1 ns.
@@ -81,7 +80,7 @@ starred =
       stated = replicate 9 0 ++ replicate 8 0 ++ 7 ∷ [];
     }
     ∷ record {
-      found = λ w. map (λ (x : Entry). x.values.w4) (w.told (replicate 9 (input 1) ++ replicate 8 (read 1)));
+      found = map (λ (x : Entry). x.values.w4) (history (replicate 9 (input 1) ++ replicate 8 (read 1)));
       stated = replicate 9 0 ++ 0 ∷ 8 ∷ 16 ∷ 24 ∷ 32 ∷ 40 ∷ 48 ∷ 56 ∷ [];
     }
     ∷ record {
@@ -89,16 +88,16 @@ starred =
       stated = (512 + 256) ∷ 0 ∷ 0 ∷ 0 ∷ 0 ∷ [];
     }
     -- Not starred: the ops are 0 to 12, and the table of checks ends with 17.
-    ∷ plain (length ops ∷ last_number ∷ []) (13 ∷ 17 ∷ [])
+    ∷ record { found = length ops ∷ last_number ∷ []; stated = 13 ∷ 17 ∷ [] }
     ∷ record { found = answers (line 9 1 0 0 0 0 ∷ line 13 1 0 0 0 0 ∷ []); stated = 0 ∷ 5 ∷ [] }
     -- Not starred: the version of the record, which the waiting adjustment counted on.
-    ∷ plain (record_version ∷ []) (2 ∷ [])
+    ∷ record { found = record_version ∷ []; stated = 2 ∷ [] }
     -- Not starred: each input has its FIFO and its selector (eighths 1, 3 and 5 of 8 ns).
     ∷ record {
-      found = λ w.
-          values (line 0 2 4 6 0 0 ∷ read 1 ∷ []) w
-          ++ values (line 0 2 4 6 0 0 ∷ read 2 ∷ []) w
-          ++ values (line 0 2 4 6 0 0 ∷ read 3 ∷ []) w;
+      found =
+          values (line 0 2 4 6 0 0 ∷ read 1 ∷ [])
+          ++ values (line 0 2 4 6 0 0 ∷ read 2 ∷ [])
+          ++ values (line 0 2 4 6 0 0 ∷ read 3 ∷ []);
       stated = 0 ∷ 0 ∷ 0 ∷ 1 ∷ 0 ∷ 0 ∷ 0 ∷ 0 ∷ 3 ∷ 0 ∷ 0 ∷ 0 ∷ 0 ∷ 5 ∷ 0 ∷ [];
     }
     -- Not starred: op 6 sets the mask that op 5 asks (TS1_NE, bit 8, and bit 14), op 7 reads status (FIFO 2, bit 8), op

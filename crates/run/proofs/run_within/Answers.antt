@@ -45,9 +45,9 @@ within_is c =
     elim c.if-few-n.branch [
       | then-few-n w ↦ w.within-is ∙ w.amount_of-within.ensures ∙ ap (amount_of s) is
       | else-few-n w ↦
-        w.within-is
-        ∙ c.amount_of-amount.ensures
-        ∙ ap (amount_of s) (few_all _ v _ c.requires.1 _ is w.if-few-n.false)
+          w.within-is
+          ∙ c.amount_of-amount.ensures
+          ∙ ap (amount_of s) (few_all _ v _ c.requires.1 _ is w.if-few-n.false)
     ]
 
 pub edge_tick-tick1-requires : goal.edge_tick-tick1-requires

@@ -1,6 +1,5 @@
 -- A line that is passed leaves the verdict to those behind it, so the verdict on the lines left always is the verdict
 -- on all; a line that is none leaves the index past the end.
-use Prim.Native.Nat.{◌-◌}
 use mathlib.Core.Path.{refl, ◌∙◌}
 use mathlib.Core.Logic.{inl}
 use native.Mathlib.Omega.{arith}

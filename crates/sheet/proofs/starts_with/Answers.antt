@@ -1,6 +1,5 @@
 -- A text begins with another where its first byte is the other's and the rest begins with the rest: so while the bytes
 -- agree those that are left decide.
-use Prim.Native.Nat.{◌-◌}
 use mathlib.Core.Path.{sym}
 use lib.ListN.{drop_of_length-le}
 use borrow.Author.Rules.{rules}
@@ -17,12 +16,11 @@ returns-then-s-i c =
     (ne_eqb _ _ c.if-s-i.true) c.loop-i.invariant.1
 
 pub loop-i-preserved : goal.loop-i-preserved
-loop-i-preserved c =
-    (
-      search rules,
-      starts_turn c.args.head.now _ _ c.loop-i-test.true c.if-s-head.false
-          (eq-eqb _ _ c.if-s-i.false) c.loop-i.invariant.1,
-    )
+loop-i-preserved c = (
+  search rules,
+  starts_turn c.args.head.now _ _ c.loop-i-test.true c.if-s-head.false
+      (eq-eqb _ _ c.if-s-i.false) c.loop-i.invariant.1,
+)
 
 pub returns : goal.returns
 returns c =

@@ -1,6 +1,5 @@
 -- The loop passes the digits of a number, seven at most. Only where the first is not 0 and the two numbers tell what
 -- belongs behind them is the line ok.
-use Prim.Native.Nat.{◌-◌}
 use mathlib.Core.Path.{sym, ◌∙◌}
 use native.Mathlib.Omega.{arith}
 use borrow.Author.Rules.{rules}

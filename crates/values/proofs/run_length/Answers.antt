@@ -1,5 +1,4 @@
 -- A byte that is no separator stands in the first part, so the bytes passed and the part left are the first part.
-use Prim.Native.Nat.{◌-◌}
 use borrow.Author.Rules.{rules}
 use Rattle.text.proofs.Laws.FirstPart.{first_here, first_on, first_none}
 use Rattle.values.proofs.run_length.Goals as goal

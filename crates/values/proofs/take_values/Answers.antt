@@ -1,6 +1,5 @@
 -- Each turn takes the first part that is left into the next place, so the front of what is left always makes up that of
 -- the whole.
-use Prim.Native.Nat.{◌-◌}
 use native.Mathlib.Omega.{arith}
 use borrow.Author.Rules.{rules}
 use borrow.Author.Tests.{not-true, not-false}

@@ -1,5 +1,4 @@
 -- Each turn writes the next byte of the text, so at the next index the bytes from i on are left to be written.
-use Prim.Native.Nat.{◌-◌}
 use native.Mathlib.Numerals.{add-one}
 use native.Mathlib.Nat.{add-zero, add_assoc}
 use lib.ListN.{drop_of_length-le}

@@ -1,5 +1,4 @@
 -- Each turn writes a comma and a number of what is left of the row, and behind the last number its line end is left.
-use Prim.Native.Nat.{◌-◌}
 use mathlib.Core.Path.{refl}
 use mathlib.Core.List.{[], ◌∷◌}
 use borrow.Author.Rules.{rules}

@@ -1,6 +1,6 @@
 -- A digit more is sixteen times the number and the digit: so while the bytes make a number that fits those that are
 -- left decide.
-use Prim.Native.Nat.{◌-◌, ◌^◌}
+use Prim.Native.Nat.{◌^◌}
 use mathlib.Core.Path.{sym, ◌∙◌}
 use native.Mathlib.Omega.{arith}
 use lib.ListN.{drop_of_length-le}
