@@ -1,6 +1,8 @@
 // The sheet runner: a command sheet on standard input, its results on standard output.
 #![tactic(auto)]
 
-fn main() {
-    streams::run(libc::STDIN_FILENO, libc::STDOUT_FILENO);
+use std::io;
+
+fn main(rt: HostRuntime) -> io::Result<()> {
+    streams::run(&rt, &mut rt.stdin(), &mut rt.stdout())
 }

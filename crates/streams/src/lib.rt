@@ -1,49 +1,62 @@
-// A command sheet on one descriptor, its results on another: what the programs over the runner share. No contract can
-// say what is read and written, so the functions here only move bytes; `runner::run_sheet` does the work.
+// A command sheet from one reader, its results to one writer: what the programs over the runner share. The functions
+// here only move bytes; `runner::run_sheet` does the work. What a file or a terminal gives and takes no contract can
+// say; the clauses here speak of readers and writers whose bytes are known, as those over memory.
 #![tactic(auto)]
 
-ghost use Rattle.std.specs.Prelude.{◌≡◌, ◌+◌, ◌≤◌, length, take};
+ghost use Rattle.std.specs.Prelude.{◌≡◌, ◌+◌, ◌<◌, ◌≤◌, length, take, drop, IfOk, IfErr, OnOk, IfSome};
+ghost use Rattle.std.specs.Io.KnownBytes.{Appends, Consumes, Keeps, ReadConsumes};
+ghost use Rattle.streams.specs.Failure.{IsNotRead};
 ghost use Rattle.text.specs.Results.{results as results_spec};
 
-// What was read: whether no read failed, and how many bytes came.
-#[derive(Clone, Copy)]
-struct Input {
-    ok: bool,
-    count: usize,
+use std::error::Error;
+use std::io::{Read, Write};
+use std::{fmt, io};
+
+// Why the results of a sheet were not all written. A sheet that cannot be read has none.
+#[derive(Clone, Copy, Debug)]
+pub enum Failure {
+    NotRead(io::Error),
+    NotWritten(io::Error),
 }
 
-// One read, into the buffer from `start` on.
-fn read_from(fd: i32, buffer: &mut [u8], start: usize) -> Input
-    requires { start ≤ length buffer.old }
-    ensures { start + result.count ≤ length buffer.new }
-{
-    let room = &mut buffer[start..];
-    let got = libc::read(fd, room);
-    Input {
-        ok: 0 <= got,
-        count: io::count(got, room),
+impl fmt::Display for Failure {
+    fn fmt<W: fmt::Write>(&self, f: &mut fmt::Formatter<W>) -> fmt::Result {
+        match self {
+            Failure::NotRead(e) => write!(f, "the sheet cannot be read: {e}"),
+            Failure::NotWritten(e) => write!(f, "the results cannot be written: {e}"),
+        }
     }
 }
 
-// Reads until the buffer is full, the input ends or a read fails.
-fn read_until_full(fd: i32, buffer: &mut [u8]) -> Input
-    ensures { result.count ≤ length buffer.new }
+impl Error for Failure {}
+
+// One read, into the buffer from `start` on: how many bytes came.
+fn read_from<R: Read>(input: &mut R, buffer: &mut [u8], start: usize) -> io::Result<usize>
+    requires { start ≤ length buffer.old }
+    ensures in_bounds { IfOk result (λ count. start + count ≤ length buffer.new) }
+    ensures before { take start buffer.new ≡ take start buffer.old }
+    ensures bytes { ReadConsumes (R.remaining input.old) (R.remaining input.new) result (drop start buffer.new) }
+{
+    input.read(&mut buffer[start..])
+}
+
+// Reads until the buffer is full, the input ends or a read fails: how many bytes came.
+fn read_until_full<R: Read>(input: &mut R, buffer: &mut [u8]) -> io::Result<usize>
+    ensures in_bounds { IfOk result (λ count. count ≤ length buffer.new) }
+    ensures bytes { IfOk result (λ count.
+        Consumes (R.remaining input.old) (R.remaining input.new) (take count buffer.new)) }
+    ensures front { IfOk result (λ count. IfSome (R.remaining input.old) (λ known.
+        take count buffer.new ≡ take (length buffer.new) known)) }
 {
     let mut count = 0;
     while count < buffer.len() {
-        let more = read_from(fd, buffer, count);
-        if more.count == 0 {
-            return Input {
-                ok: more.ok,
-                count: count,
-            };
+        let more = read_from(input, buffer, count)?;
+        if more == 0 {
+            return Ok(count);
         }
-        count += more.count;
+        count += more;
     }
-    Input {
-        ok: true,
-        count: count,
-    }
+    Ok(count)
 }
 
 // Puts the results of a sheet at the front of the buffer, which has room for those of every sheet, and returns their
@@ -56,20 +69,32 @@ fn results_of(sheet: &[u8], out: &mut [u8]) -> usize
     runner::run_sheet(sheet, out)
 }
 
-// Runs the sheet that stands on one descriptor, and writes its results to another. No more is read than number 1
-// needs. What cannot be read gives no results and what cannot be written is not silent: standard error says so.
-// (A part is written `[0..n]`, not `[..n]`: that it lies within its array is then proved with no file.)
-pub fn run(input: i32, output: i32) {
+// Runs the sheet that a reader gives, and writes its results to a writer. No more is read than number 1 needs.
+pub fn write_results<R: Read, W: Write>(input: &mut R, output: &mut W) -> Result<(), Failure>
+    ensures written { OnOk result (IfSome (R.remaining input.old) (λ sheet.
+        Appends (W.contents output.old) (W.contents output.new) (results_spec sheet))) }
+    ensures read { OnOk result (IfSome (R.remaining input.old) (λ sheet.
+        Consumes (R.remaining input.old) (R.remaining input.new) (take 65537 sheet))) }
+    ensures unread { IfErr result (λ failure.
+        IsNotRead failure → Keeps (W.contents output.old) (W.contents output.new)) }
+{
     let mut sheet = [0u8; 65537];
-    let read = read_until_full(input, &mut sheet);
-    if !read.ok {
-        os::fail(b"the sheet cannot be read");
-        return;
-    }
-    let count = read.count;
+    let count = match read_until_full(input, &mut sheet) {
+        Ok(count) => count,
+        Err(e) => return Err(Failure::NotRead(e)),
+    };
     let mut results = [0u8; 138309];
-    let length = results_of(&sheet[0..count], &mut results);
-    if !io::write_all(output, &results[0..length]) {
-        os::fail(b"the results cannot be written");
+    let length = results_of(&sheet[..count], &mut results);
+    match output.write_all(&results[..length]) {
+        Ok(()) => Ok(()),
+        Err(e) => Err(Failure::NotWritten(e)),
+    }
+}
+
+// The same, where a failure is not silent: standard error says what failed. The error is standard error's own.
+pub fn run<R: Read, W: Write>(rt: &impl Eprint, input: &mut R, output: &mut W) -> io::Result<()> {
+    match write_results(input, output) {
+        Ok(()) => Ok(()),
+        Err(failure) => eprintln!(rt; "{failure}"),
     }
 }

@@ -1,0 +1,2 @@
+-- Why the results of a sheet were not all written.
+pub mod Failure
