@@ -1,7 +1,7 @@
 /* A panel's day on a lent record: power on, set the time, steer, arm, tick with an input, read the timestamp and the
  * interrupts, save the record and load it again, run for ten seconds of engine time, print the time.
  *
- *     rt staticlib lendaru_panel && rt staticlib lendaru_run
+ *     tools/archives lendaru_panel lendaru_run
  *     cc -Iinclude examples/panel.c target/staticlib/liblendaru_panel.a target/staticlib/liblendaru_run.a -o panel
  *     ./panel
  */

@@ -1,6 +1,6 @@
 /* Runs document 01's whole example through the static library, and prints its five lines.
  *
- *     rt staticlib lendaru
+ *     tools/archives lendaru
  *     cc -Iinclude examples/whole_example.c target/staticlib/liblendaru.a -o whole_example && ./whole_example
  */
 #include <stdio.h>

@@ -1,4 +1,4 @@
-/* Lendaru: the time engine as a static library (liblendaru.a, made by `rt staticlib lendaru`; x86-64).
+/* Lendaru: the time engine as a static library (liblendaru.a, made by `tools/archives lendaru`; x86-64).
  *
  * Every function here is proved in crates/lendaru to do what is said, for all bytes. Nothing is allocated, no state is
  * kept between calls, and no function calls the operating system; of the C library the archive needs memcpy. What a

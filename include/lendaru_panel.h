@@ -1,5 +1,5 @@
 /* Lendaru on a record that the firmware lends: liblendaru_panel.a, and liblendaru_run.a for lendaru_run (made by
- * `rt staticlib lendaru_panel` and `rt staticlib lendaru_run`; x86-64). They may be linked together.
+ * `tools/archives lendaru_panel lendaru_run`; x86-64). They may be linked together.
  *
  * The firmware owns an engine record, lends it for one command or one run at a time, and finds it advanced; the record
  * may live for months. Every function here is proved, in crates/lendaru_panel and crates/lendaru_run, to do what is

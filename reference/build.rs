@@ -1,4 +1,4 @@
-//! Where `rt staticlib` leaves the static libraries.
+//! Where `tools/archives` leaves the static libraries.
 fn main() {
     let root = std::path::Path::new(env!("CARGO_MANIFEST_DIR")).join("../target/staticlib");
     println!("cargo:rustc-link-search=native={}", root.display());

@@ -1,5 +1,5 @@
-// The static library for firmware in C or Rust: what include/lendaru.h declares. Each function is a function of the
-// layers below under a name that C can link; a slice is a pointer and a length there.
+// A whole sheet in one call: what include/lendaru.h declares. Each function is a function of the layers below under a
+// name that C can link, and lendaru_c exports it.
 #![tactic(auto)]
 
 ghost use Rattle.std.specs.Prelude.{◌≡◌};
@@ -12,24 +12,21 @@ const SHEET_VERSION: u64 = 5;
 const RESULTS_ROOM: usize = 138309;
 
 // The version of the sheet format.
-#[unsafe(no_mangle)]
-pub extern "C" fn lendaru_sheet_version() -> u64
+pub fn lendaru_sheet_version() -> u64
     ensures { result ≡ sheet_version }
 {
     SHEET_VERSION
 }
 
 // How many bytes are enough for the results of every sheet.
-#[unsafe(no_mangle)]
-pub extern "C" fn lendaru_results_room() -> usize
+pub fn lendaru_results_room() -> usize
     ensures { result ≡ results_room }
 {
     RESULTS_ROOM
 }
 
 // Runs a whole sheet from power-on.
-#[unsafe(no_mangle)]
-pub extern "C" fn lendaru_run_sheet(sheet: &[u8], out: &mut [u8]) -> usize
+pub fn lendaru_run_sheet(sheet: &[u8], out: &mut [u8]) -> usize
     ensures { Ran sheet.now out.old out.new result }
 {
     runner::run_sheet(sheet, out)

@@ -1,5 +1,6 @@
-// The engine over a record that the firmware lends: what include/lendaru_panel.h declares. A library of its own, since
-// a second caller of the engine in liblendaru.a would keep the compiler from putting the tick into the sheet's loop.
+// The engine over a record that the firmware lends: what include/lendaru_panel.h declares, and lendaru_panel_c exports.
+// An archive of its own, since a second caller of the engine in liblendaru.a would keep the compiler from putting the
+// tick into the sheet's loop.
 #![tactic(auto)]
 
 ghost use Rattle.std.specs.Prelude.{◌≡◌};
@@ -22,16 +23,14 @@ pub struct Reply {
 }
 
 // The version of the record's layout.
-#[unsafe(no_mangle)]
-pub extern "C" fn lendaru_record_version() -> u64
+pub fn lendaru_record_version() -> u64
     ensures { result ≡ record_version }
 {
     RECORD_VERSION
 }
 
 // The record at power-on, by value.
-#[unsafe(no_mangle)]
-pub extern "C" fn lendaru_power_on() -> Engine
+pub fn lendaru_power_on() -> Engine
     ensures { result ≡ power_on }
 {
     engine::power_on()
@@ -67,8 +66,7 @@ fn moves_of(m: Change) -> bool
 }
 
 // One command on a lent record. A FIFO moves in few commands, so the record is stored without them but for those.
-#[unsafe(no_mangle)]
-pub extern "C" fn lendaru_execute(e: &mut Engine, c: Command) -> Reply
+pub fn lendaru_execute(e: &mut Engine, c: Command) -> Reply
     ensures { Lent e.old c e.new result }
 {
     let m = change_of(*e, c);

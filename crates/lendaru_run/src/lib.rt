@@ -1,6 +1,6 @@
-// A run of ticks on a record that the firmware lends: what include/lendaru_panel.h declares beside the commands. An
-// archive of its own, since a second caller of check 4 and of the run in liblendaru_panel.a would make a function of
-// each, to which the record is copied. Document 02, A.1.
+// A run of ticks on a record that the firmware lends: what include/lendaru_panel.h declares beside the commands, and
+// lendaru_run_c exports. An archive of its own, since a second caller of check 4 and of the run in liblendaru_panel.a
+// would make a function of each, to which the record is copied. Document 02, A.1.
 #![tactic(auto)]
 
 ghost use Rattle.std.specs.Prelude.{◌≡◌};
@@ -42,8 +42,7 @@ fn run_of(e: Engine, a: u64) -> Change
 }
 
 // A run of at most a ticks on a lent record, which it finds advanced. No FIFO moves, so there is one store.
-#[unsafe(no_mangle)]
-pub extern "C" fn lendaru_run(e: &mut Engine, a: u64) -> Reply
+pub fn lendaru_run(e: &mut Engine, a: u64) -> Reply
     ensures { Lent e.old (run_line a) e.new result }
 {
     let m = run_of(*e, a);

@@ -1,2 +1,0 @@
--- The walk of a function over a lent record that moves no FIFO.
-pub mod Straight
