@@ -2,12 +2,22 @@
 use model::{Engine, Generator, Instant};
 use std::io;
 
+fn print_field(rt: &impl Print, n: u64) -> io::Result<()> {
+    print!(rt; ",{n}")
+}
+
 // A tick on a record: its answer and its five values.
 fn tick(rt: &impl Print, name: &str, e: Engine) -> io::Result<()> {
     let o = engine::execute(e, tick_lines::command_of([0u64; 9]));
     let v = o.values;
     println!(rt; "{name}:")?;
-    println!(rt; "{},{},{},{},{},{}", o.answer, v.w1, v.w2, v.w3, v.w4, v.w5)
+    print!(rt; "{}", o.answer)?;
+    print_field(rt, v.w1)?;
+    print_field(rt, v.w2)?;
+    print_field(rt, v.w3)?;
+    print_field(rt, v.w4)?;
+    print_field(rt, v.w5)?;
+    println!(rt; "")
 }
 
 // Number 4: numbers of the clock, the steering, the words and the interrupts outside their ranges, after a record that
