@@ -1,20 +1,14 @@
-# The crates that rt proves for `program`, itself included, in rt's order: by level, where a crate's level is one above
-# the highest of those it depends on. Input: crates.txt.
+# The crates that rt proves for `program`, itself included, in rt's order: each behind those that it depends on, which
+# come in the order of its line. Input: crates.txt.
 { sub(/#.*/, "") }
-NF { split($0, side, ":"); needs[side[1]] = side[2] }
+/:/ { split($0, side, ":"); split(side[1], words, " "); needs[words[1]] = side[2] }
 
-function visit(name,    on, count, k, high) {
-    if (name in level) return
+function visit(name,    on, count, k) {
+    if (!(name in needs) || name in seen) return
+    seen[name] = 1
     count = split(needs[name], on, " ")
-    for (k = 1; k <= count; k++) if (on[k] in needs) {
-        visit(on[k])
-        if (level[on[k]] >= high) high = level[on[k]] + 1
-    }
-    level[name] = high + 0
-    names[high + 0] = names[high + 0] name " "
+    for (k = 1; k <= count; k++) visit(on[k])
+    printf "%s ", name
 }
 
-END {
-    visit(program)
-    for (k = 0; k in names; k++) printf "%s", names[k]
-}
+END { visit(program) }
