@@ -1,9 +1,9 @@
 /* Lendaru: the time engine as a static library (liblendaru.a, made by `tools/archives lendaru`; x86-64).
  *
  * Every function here is proved in crates/lendaru to do what is said, for all bytes. Nothing is allocated, no state is
- * kept between calls, and no function calls the operating system; of the C library the archive needs memcpy. What a
- * caller owes is what C cannot check: that each pointer and length name memory that is really there and that nothing
- * else writes meanwhile.
+ * kept between calls, and no function calls the operating system; of the C library the archive needs memcpy at most.
+ * What a caller owes is what C cannot check: that each pointer and length name memory that is really there and that
+ * nothing else writes meanwhile.
  */
 #ifndef LENDARU_H
 #define LENDARU_H

@@ -4,9 +4,9 @@
  * The firmware owns an engine record, lends it for one command or one run at a time, and finds it advanced; the record
  * may live for months. Every function here is proved, in crates/lendaru_panel and crates/lendaru_run, to do what is
  * said, for every record and every command; costs are measured. Nothing is allocated, no state is kept beside the
- * record, and no function calls the operating system; of the C library the archives need memcpy. What a caller owes is
- * what C cannot check: that the pointer names a whole record, and that nothing else reads or writes it during the call.
- * Two records are two engines, and two threads may use them.
+ * record, and no function calls the operating system; of the C library the archives need memcpy and memset at most.
+ * What a caller owes is what C cannot check: that the pointer names a whole record, and that nothing else reads or
+ * writes it during the call. Two records are two engines, and two threads may use them.
  */
 #ifndef LENDARU_PANEL_H
 #define LENDARU_PANEL_H
