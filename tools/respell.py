@@ -12,7 +12,7 @@ import os
 import re
 import sys
 
-WORD = re.compile(r"[^\W\d][\w'′]*(?:-[\w'′≡≤<]+)*", re.U)
+WORD = re.compile(r"(?<![\w'′])[^\W\d][\w'′]*(?:-[\w'′≡≤<]+)*", re.U)
 OWN_USE = re.compile(r"^\s*(?:pub )?(?:ghost )?use (Rattle\.\w+[\w.'+-]*)")
 ANY_USE = re.compile(r"^\s*(?:pub )?(?:ghost )?use ([\w.'+·-]+?)(?:\.\{([^}]*)\})?(?: as [\w-]+)?;?\s*$")
 MADE = re.compile(r"^(Need|After|At|Then|Else|In|Arm|Lts|Loop|Start|returns|loop|invariant|decreases|calls|then|else|if|overflow_)(-|\d|$)")

@@ -12,7 +12,8 @@ use lib.ListN.{length, get_or, drop}
 use lib.Seq.{drop-cons}
 use borrow.Author.Tests.{lt-ltb, le-ltb, ltb-false, eq-eqb, ne_eqb}
 use Rattle.text.specs.declared.Value.{Value}
-use Rattle.text.specs.Text.{digit_of, all_digits, number_after, leads_well, is_number, starts_with, base_prefix, is_value}
+use Rattle.text.specs.Text.{digit_of, all_digits, number_after, leads_well, is_number, starts_with, base_prefix}
+use Rattle.text.specs.Text.{is_value}
 use Rattle.text.specs.Text.{number_of, no_value, value_of}
 use Rattle.text.proofs.Laws.Digits.{number_grows, decimal_byte}
 use Rattle.text.proofs.Laws.Values.{decimal_value_lem, no_prefix}
@@ -54,7 +55,8 @@ module _ (base : ℕ) (some : 1 ≤ base) where
   read_step n bs next false fits h e = rw e
   read_step n bs next true true h e = rw e
   read_step n bs next true false h e =
-      let large : 2 ^ 64 ≤ number_after base n bs = omega (arith, ltb-false n (2 ^ 64) h, number_grows base n bs some) in
+      let large : 2 ^ 64 ≤ number_after base n bs =
+      omega (arith, ltb-false n (2 ^ 64) h, number_grows base n bs some) in
       rw (e, le-ltb (number_after base n bs) (2 ^ 64) large, and-false)
 
   -- what all the bytes make, the next number makes with those that are left

@@ -1,4 +1,5 @@
--- That products and sums fit into 64 bits: an amount is below 2^40 and a million of them below 2^60, less than a second.
+-- That products and sums fit into 64 bits: an amount is below 2^40 and a million of them below 2^60, less than a
+-- second.
 use Prim.Native.Nat.{ℕ, ◌+◌, ◌*◌, ◌-◌, ◌/◌, ◌%◌, ◌≤◌, ◌<◌, ◌^◌, min}
 use mathlib.Core.Path.{◌≡◌, refl}
 use mathlib.Core.Bool.{Bool, true, false}

@@ -62,7 +62,8 @@ module _ (e : Engine) (c : Command) where
   }
 
   -- what a change tells, with the record after it
-  pub settled_stepped : (m : Change) (n : Engine) → valid e ≡ true → Gives e c (execute e c) m → n ≡ (execute e c).engine
+  pub settled_stepped : (m : Change) (n : Engine) → valid e ≡ true → Gives e c (execute e c) m
+      → n ≡ (execute e c).engine
       → Stepped e c (record { answer = m.answer; values = m.values; engine = n })
   settled_stepped m n v g settled =
       let answer = ap (λ (o : Outcome). o.answer) g.is in

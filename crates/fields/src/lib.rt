@@ -7,7 +7,8 @@ ghost use Rattle.std.specs.Prelude.{◌^◌, ◌≡◌, ltb};
 ghost use Rattle.model.specs.Tests.{every};
 ghost use Rattle.model.specs.Fields.{zero_from_f, zero_from_d, zero_from_b, is_generator, tick_fields, load_fields};
 ghost use Rattle.model.specs.Fields.{command_fields, arm_fields, stop_fields, mask_fields, no_fields};
-ghost use Rattle.model.specs.Fields.{ticks_fields, run_fields, preview_fields, depart_fields, recover_fields, fields_ok};
+ghost use Rattle.model.specs.Fields.{ticks_fields, run_fields, preview_fields, depart_fields, recover_fields};
+ghost use Rattle.model.specs.Fields.{fields_ok};
 
 use model::{Command, ENABLED_MASK, LONG_LIMIT, NS_PER_SECOND, SECONDS_LIMIT, WORD_LIMIT};
 use tests::{both, either};

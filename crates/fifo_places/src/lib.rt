@@ -1,6 +1,6 @@
-// The check of the three timestamp FIFOs, a part of number 4. They are looked at together, place by place, in one row of
-// tests of which the compiler can make straight code with no copy. Each function returns a definition of the model's
-// specs/Ranges.antt or of specs/. Document 01, "Where each command is checked", below the table.
+// The check of the three timestamp FIFOs, a part of number 4. They are looked at together, place by place, in one row
+// of tests of which the compiler can make straight code with no copy. Each function returns a definition of the
+// model's specs/Ranges.antt or of specs/. Document 01, "Where each command is checked", below the table.
 #![tactic(auto)]
 
 ghost use Rattle.std.specs.Prelude.{◌≡◌, ◌&&◌, cond, ◌<◌, eqb};

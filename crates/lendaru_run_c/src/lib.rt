@@ -1,6 +1,6 @@
 // The static library that runs ticks on a record that the firmware lends: the function of `lendaru_run` under the name
-// that include/lendaru_panel.h gives it in C, with its clause again. `tools/archives` makes liblendaru_run.a of it; C may
-// link that beside liblendaru_panel.a.
+// that include/lendaru_panel.h gives it in C, with its clause again. `tools/archives` makes liblendaru_run.a of it; C
+// may link that beside liblendaru_panel.a.
 #![tactic(auto)]
 
 ghost use Rattle.model.specs.RunLine.{run_line};

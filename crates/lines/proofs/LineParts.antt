@@ -101,7 +101,8 @@ module _ (s : List ℕ) (at : ℕ) where
   unfolding line_of
   part_whole more = part_line (drop at s) ∙ go (is_line line) refl
     where
-      go : (q : Bool) → is_line line ≡ q → line_of line ≡ cond (ltb (at + length line) (length s)) (line_of line) no_line
+      go : (q : Bool) → is_line line ≡ q
+          → line_of line ≡ cond (ltb (at + length line) (length s)) (line_of line) no_line
       go true h = rw (lt-ltb (at + length line) (length s) (omega (arith, ap length (line_is_part (drop at s) h))))
       go false h = rw (h, cond_same)
 

@@ -34,7 +34,8 @@ pub mod FieldLimits
 
 pub examples : List Example
 examples =
-    starred ++ cells ++ run_lines ++ adjustments ++ previews ++ departures ++ timestamps ++ record_limits ++ field_limits
+    starred ++ cells ++ run_lines ++ adjustments ++ previews ++ departures ++ timestamps ++ record_limits
+    ++ field_limits
 
 examples_tested : as_stated examples ≡ true
 unfolding examples starred cells run_lines adjustments previews departures timestamps record_limits field_limits

@@ -54,7 +54,8 @@ pub record StoredBehind (before after : Fifo) (t : Timestamp) : Type 0 where
 -- an edge that finds room is stored so, with this timestamp and its direction (the record's array has eight places)
 pub stored : (i : ℕ) (e : Engine) (c : Command) → brings_edge i e c ≡ true → is_full (fifo_on i e) ≡ false
     → length (fifo_on i e).entries ≡ 8
-    → StoredBehind (fifo_on i e) (fifo_on i (execute e c).engine) (timestamp_at (edge_ns i e c) (code_rising (code_on i c)))
+    → StoredBehind (fifo_on i e) (fifo_on i (execute e c).engine)
+    (timestamp_at (edge_ns i e c) (code_rising (code_on i c)))
 stored i e c edge room eight =
     let f = fifo_on i e in
     let t = timestamp_at (edge_ns i e c) (code_rising (code_on i c)) in

@@ -1,7 +1,8 @@
 -- The table of document 01, "Where each command is checked": checks run from the top, and the first that fails is the
 -- answer. Number 11 is document 02's, A.4: the waiting place is taken. Op 10 has the checks of what it does on its copy
 -- (A.5): 9 to 11 as an adjust write, and 15 where one of its ticks would get it. Numbers 16 and 17 are A.7's.
-use Rattle.std.specs.Prelude.{ℕ, ◌+◌, ◌*◌, ◌-◌, ◌<◌, ◌≤◌, ◌≡◌, List, [], ◌∷◌, map, Bool, true, false, ◌&&◌, ◌||◌, not, eqb, leb, ltb, length}
+use Rattle.std.specs.Prelude.{ℕ, ◌+◌, ◌*◌, ◌-◌, ◌<◌, ◌≤◌, ◌≡◌, List, [], ◌∷◌, map, Bool, true, false, ◌&&◌, ◌||◌, not}
+use Rattle.std.specs.Prelude.{eqb, leb, ltb, length}
 use Rattle.model.specs.declared.Engine.{Engine}
 use Rattle.model.specs.declared.Command.{Command}
 use Rattle.model.specs.Units.{ns_per_second}

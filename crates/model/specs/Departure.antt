@@ -1,7 +1,8 @@
 -- Ops 11 and 12: the departure time of a Delay_Req in its correctionField, and back out of it. Document 02, A.7; sheet
 -- 000, 6.13.7.3.2. The correctionField is a signed 64-bit count of 2^-16 ns (IEEE 1588-2008), given and returned as its
 -- 64-bit pattern.
-use Rattle.std.specs.Prelude.{ℕ, suc, ◌+◌, ◌*◌, ◌-◌, ◌/◌, ◌%◌, ◌^◌, Bool, ◌&&◌, not, cond, leb, ltb, ℤ, pos, negsuc, ◌+ℤ◌, ◌-ℤ◌}
+use Rattle.std.specs.Prelude.{ℕ, suc, ◌+◌, ◌*◌, ◌-◌, ◌/◌, ◌%◌, ◌^◌, Bool, ◌&&◌, not, cond, leb, ltb, ℤ, pos, negsuc}
+use Rattle.std.specs.Prelude.{◌+ℤ◌, ◌-ℤ◌}
 use Rattle.model.specs.declared.Engine.{Engine}
 use Rattle.model.specs.declared.Command.{Command}
 use Rattle.model.specs.declared.Clock.{Clock}

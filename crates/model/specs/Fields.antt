@@ -83,7 +83,8 @@ recover_fields c = seconds_ok c.a ∷ ltb c.b (2 ^ 64) ∷ eqb c.c 0 ∷ zero_fr
 -- the list of each op, by its number
 abbrev pub field_lists : List (Command → List Bool)
 field_lists =
-    tick_fields ∷ load_fields ∷ command_fields ∷ arm_fields ∷ stop_fields ∷ no_fields ∷ mask_fields ∷ no_fields ∷ no_fields
+    tick_fields ∷ load_fields ∷ command_fields ∷ arm_fields ∷ stop_fields ∷ no_fields
+    ∷ mask_fields ∷ no_fields ∷ no_fields
     ∷ run_fields
     ∷ preview_fields
     ∷ depart_fields

@@ -1,5 +1,6 @@
 -- Timestamp FIFOs. Document 01, "Stamps and generators"; sheet 000, 6.13.4.
-use Rattle.std.specs.Prelude.{ℕ, ◌+◌, ◌*◌, ◌-◌, ◌/◌, ◌%◌, ◌^◌, min, [], ◌∷◌, Bool, ◌&&◌, ◌||◌, not, cond, get_or, set, replicate, eqb, leb}
+use Rattle.std.specs.Prelude.{ℕ, ◌+◌, ◌*◌, ◌-◌, ◌/◌, ◌%◌, ◌^◌, min, [], ◌∷◌, Bool, ◌&&◌, ◌||◌, not, cond, get_or, set}
+use Rattle.std.specs.Prelude.{replicate, eqb, leb}
 use Rattle.model.specs.declared.Timestamp.{Timestamp}
 use Rattle.model.specs.declared.Fifo.{Fifo}
 use Rattle.model.specs.Units.{ns_per_second}

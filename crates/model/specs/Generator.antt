@@ -1,5 +1,6 @@
 -- Event generators. Document 01, "Stamps and generators"; sheet 000, 6.13.3.
-use Rattle.std.specs.Prelude.{ℕ, ◌+◌, ◌*◌, ◌-◌, ◌/◌, ◌%◌, ◌^◌, List, [], ◌∷◌, Bool, ◌&&◌, ◌||◌, not, cond, eqb, leb, ltb}
+use Rattle.std.specs.Prelude.{ℕ, ◌+◌, ◌*◌, ◌-◌, ◌/◌, ◌%◌, ◌^◌, List, [], ◌∷◌, Bool, ◌&&◌, ◌||◌, not, cond, eqb, leb}
+use Rattle.std.specs.Prelude.{ltb}
 use Rattle.model.specs.declared.Instant.{Instant}
 use Rattle.model.specs.declared.Generator.{Generator}
 use Rattle.model.specs.Units.{ns_per_second}

@@ -43,7 +43,7 @@ only_bits mask word = ltb word (2 ^ 16) && every_below 16 (λ k. leb (bit k word
 
 -- the bits that can be latched, and those that can be enabled (P1FNF 3 and P2FNF 6 too)
 abbrev pub latched_mask : ℕ
-latched_mask = 0x3_f37
+latched_mask = 0x3F37
 
 abbrev pub enabled_mask : ℕ
-enabled_mask = 0x3_f7_f
+enabled_mask = 0x3F7F

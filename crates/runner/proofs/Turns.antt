@@ -57,7 +57,8 @@ run_start s out from e h room on =
       rest = rw on (rest_whole room);
     }
 
-commands_first : (l : List ℕ) (ps : List (List ℕ)) → 0 < length ps → commands_of (l ∷ ps) ≡ command_in l ∷ commands_of ps
+commands_first : (l : List ℕ) (ps : List (List ℕ)) → 0 < length ps
+    → commands_of (l ∷ ps) ≡ command_in l ∷ commands_of ps
 commands_first l [] h = absurd (omega arith)
 commands_first l (p ∷ ps) h = refl
 

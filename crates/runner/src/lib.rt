@@ -1,6 +1,6 @@
 // Running a command sheet: its bytes in, the text of its results out, in a lent buffer. The text is the
-// definition `results` of the sheet (text's specs/Results.antt). The record is valid at power-on and every step keeps it
-// valid, so it is never checked again. Document 01, "Command sheet".
+// definition `results` of the sheet (text's specs/Results.antt). The record is valid at power-on and every step keeps
+// it valid, so it is never checked again. Document 01, "Command sheet".
 #![tactic(auto)]
 
 ghost use Rattle.std.specs.Prelude.{◌+◌, ◌≤◌, ◌≡◌, length};

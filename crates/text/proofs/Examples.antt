@@ -21,8 +21,8 @@ texts = sheets ++ writings
 
 texts_tested : as_stated texts ≡ true
 unfolding sheets writings told told_of verdict as_stated same opened Text.is_number Text.is_value Text.number_of
-    Forms.reads_line Forms.row_in Forms.head_verdict Forms.verdict_of Sheet.command_sheet Sheet.commands_in Text.value_of
-    Text.decimal Text.base16 Results.results
+    Forms.reads_line Forms.row_in Forms.head_verdict Forms.verdict_of Sheet.command_sheet Sheet.commands_in
+    Text.value_of Text.decimal Text.base16 Results.results
 texts_tested = refl
 
 pub examples : List Example

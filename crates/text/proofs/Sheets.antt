@@ -49,7 +49,8 @@ written_is_read s cs w short =
 pub text_writes : (cs : List Command) → fields_fit cs ≡ true → Writes (sheet_text cs) cs
 text_writes = Law.text_writes
 
-pub list_is_sheet : (cs : List Command) → fields_fit cs ≡ true → length (sheet_text cs) ≤ 65536 → RunOf (sheet_text cs) cs
+pub list_is_sheet : (cs : List Command) → fields_fit cs ≡ true → length (sheet_text cs) ≤ 65536
+    → RunOf (sheet_text cs) cs
 list_is_sheet cs fit short = written_is_read (sheet_text cs) cs (Law.text_writes cs fit) short
 
 -- and in decimal alone nothing else does

@@ -1,7 +1,8 @@
 -- Sheets of numbers: their form, what one says, what a reader finds in it, and the answer to it as a whole, numbers 1
 -- to 3. Document 01, "Command sheet" and "Where each command is checked"; document 02, A.8, has a second sheet, for
 -- which "the size, first-line and form checks carry over".
-use Rattle.std.specs.Prelude.{ℕ, ◌+◌, ◌^◌, ◌<◌, ◌≡◌, ◌⊎◌, List, [], ◌∷◌, ◌++◌, Bool, true, false, ◌&&◌, cond, eqb, ltb, length, drop}
+use Rattle.std.specs.Prelude.{ℕ, ◌+◌, ◌^◌, ◌<◌, ◌≡◌, ◌⊎◌, List, [], ◌∷◌, ◌++◌, Bool, true, false, ◌&&◌, cond, eqb}
+use Rattle.std.specs.Prelude.{ltb, length, drop}
 use Rattle.text.specs.declared.Verdict.{Verdict}
 use Rattle.text.specs.Text.{comma, line_end, number_after, is_number, starts_with, base_prefix, is_value, number_of}
 use Rattle.text.specs.Text.{parts, decimal, base16}

@@ -19,7 +19,7 @@ use Rattle.text.proofs.Laws.Starts.{starts_length}
 
 -- "0,0,0,0," as a number
 abbrev four_zeros : ℕ
-four_zeros = 0x2_c30_2_c30_2_c30_2_c30
+four_zeros = 0x2C30_2C30_2C30_2C30
 
 -- the two, four or eight bytes of a number, the lowest first
 abbrev pair_bytes : ℕ → List ℕ

@@ -65,7 +65,7 @@ module _ (s : List ℕ) (at : ℕ) where
           and-true,
         )
 
-    pub begun_nine : pair_at s at ≡ 0x2_c39 → record { op = 9; from = at + 2 } ≡ begun_at (drop at s) at
+    pub begun_nine : pair_at s at ≡ 0x2C39 → record { op = 9; from = at + 2 } ≡ begun_at (drop at s) at
     unfolding by_bytes
     begun_nine pair =
         let a = fits at in
@@ -74,7 +74,7 @@ module _ (s : List ℕ) (at : ℕ) where
         let two = eq-eqb (get_or s (at + 1) 0) 44 (omega arith) in
         sym (begun_by ∙ rw (one, two) refl)
 
-    pub begun_other : (pair_at s at ≡ 0x2_c39 → ⊥) → (pair_at s at ≡ 0x3031 → ⊥)
+    pub begun_other : (pair_at s at ≡ 0x2C39 → ⊥) → (pair_at s at ≡ 0x3031 → ⊥)
         → record { op = 0; from = at } ≡ begun_at (drop at s) at
     unfolding by_bytes
     begun_other no_nine no_ten =
@@ -84,7 +84,7 @@ module _ (s : List ℕ) (at : ℕ) where
         let ten = two_bytes (get_or s at 0) (get_or s (at + 1) 0) 49 48 a b (omega arith) (omega arith) no_ten in
         sym (begun_by ∙ rw (nine, with_third _ _ (eqb (get_or s (at + 2) 0) 44) ten) refl)
 
-    module _ (no_nine : pair_at s at ≡ 0x2_c39 → ⊥) (ten : pair_at s at ≡ 0x3031) where
+    module _ (no_nine : pair_at s at ≡ 0x2C39 → ⊥) (ten : pair_at s at ≡ 0x3031) where
       nine : (eqb (get_or s at 0) 57 && eqb (get_or s (at + 1) 0) 44) ≡ false
       nine =
           two_bytes (get_or s at 0) (get_or s (at + 1) 0) 57 44 (fits at) (fits (at + 1)) (omega arith) (omega arith)
@@ -112,10 +112,10 @@ module _ (s : List ℕ) (at : ℕ) where
 
 -- the first eight and the last eight of the 15 bytes behind the number, as numbers: they share one byte
 abbrev zeros_behind : ℕ
-zeros_behind = 0x302c_302c_302c_302_c
+zeros_behind = 0x302C_302C_302C_302C
 
 abbrev zeros_to_end : ℕ
-zeros_to_end = 0x0_a30_2_c30_2_c30_2_c30
+zeros_to_end = 0x0A30_2C30_2C30_2C30
 
 ticks_end_lem : (s : List ℕ) → ((i : ℕ) → get_or s i 0 < 256) → (i : ℕ)
     → eight_at s i ≡ zeros_behind → eight_at s (i + 7) ≡ zeros_to_end

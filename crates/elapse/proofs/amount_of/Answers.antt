@@ -17,7 +17,8 @@ none : (c : Then-s-eq0) → let a = c.args in amount_of a.s a.n ≡ a.n * a.s.pe
 none c = in_none c.args.s c.args.n c.requires.0 c.if-s-eq0.true
 
 pub overflow_mul-result : goal.overflow_mul-result
-overflow_mul-result c = omega (arith, none (goal.at.overflow_mul-result c).Then-s-eq0, low (goal.at.overflow_mul-result c).Start)
+overflow_mul-result c =
+    omega (arith, none (goal.at.overflow_mul-result c).Then-s-eq0, low (goal.at.overflow_mul-result c).Start)
 
 pub returns-then-s-eq0 : goal.returns-then-s-eq0
 returns-then-s-eq0 c = sym (none (goal.at.returns-then-s-eq0 c).Then-s-eq0)
@@ -28,7 +29,12 @@ first : (c : Then-n-s)
 first c = let a = c.args in in_first a.s a.n c.if-n-s.true
 
 pub overflow_mul-result-then-n-s : goal.overflow_mul-result-then-n-s
-overflow_mul-result-then-n-s c = omega (arith, first (goal.at.overflow_mul-result-then-n-s c).Then-n-s, low (goal.at.overflow_mul-result-then-n-s c).Start)
+overflow_mul-result-then-n-s c =
+    omega (
+      arith,
+      first (goal.at.overflow_mul-result-then-n-s c).Then-n-s,
+      low (goal.at.overflow_mul-result-then-n-s c).Start,
+    )
 
 pub returns-then-n-s : goal.returns-then-n-s
 returns-then-n-s c = sym (first (goal.at.returns-then-n-s c).Then-n-s)
@@ -47,10 +53,16 @@ second c =
     in_second_lem a.s a.n (omega (arith, c.if-n-s.false)) c.if-rest-s.true
 
 pub overflow_mul-result-then-rest-s : goal.overflow_mul-result-then-rest-s
-overflow_mul-result-then-rest-s c = omega (arith, second (goal.at.overflow_mul-result-then-rest-s c).Then-rest-s, low (goal.at.overflow_mul-result-then-rest-s c).Start)
+overflow_mul-result-then-rest-s c =
+    omega (
+      arith,
+      second (goal.at.overflow_mul-result-then-rest-s c).Then-rest-s,
+      low (goal.at.overflow_mul-result-then-rest-s c).Start,
+    )
 
 pub overflow_add-result : goal.overflow_add-result
-overflow_add-result c = omega (arith, second (goal.at.overflow_add-result c).Then-rest-s, low (goal.at.overflow_add-result c).Start)
+overflow_add-result c =
+    omega (arith, second (goal.at.overflow_add-result c).Then-rest-s, low (goal.at.overflow_add-result c).Start)
 
 pub returns-then-rest-s : goal.returns-then-rest-s
 returns-then-rest-s c = sym (second (goal.at.returns-then-rest-s c).Then-rest-s)
@@ -67,16 +79,20 @@ third c =
     in_third a.s a.n (omega (arith, c.if-n-s.false)) (omega arith)
 
 pub overflow_mul-result-2 : goal.overflow_mul-result-2
-overflow_mul-result-2 c = omega (arith, third (goal.at.overflow_mul-result-2 c).Else-rest-s, low (goal.at.overflow_mul-result-2 c).Start)
+overflow_mul-result-2 c =
+    omega (arith, third (goal.at.overflow_mul-result-2 c).Else-rest-s, low (goal.at.overflow_mul-result-2 c).Start)
 
 pub overflow_add-result-2 : goal.overflow_add-result-2
-overflow_add-result-2 c = omega (arith, third (goal.at.overflow_add-result-2 c).Else-rest-s, low (goal.at.overflow_add-result-2 c).Start)
+overflow_add-result-2 c =
+    omega (arith, third (goal.at.overflow_add-result-2 c).Else-rest-s, low (goal.at.overflow_add-result-2 c).Start)
 
 pub overflow_mul-result-3 : goal.overflow_mul-result-3
-overflow_mul-result-3 c = omega (arith, third (goal.at.overflow_mul-result-3 c).Else-rest-s, low (goal.at.overflow_mul-result-3 c).Start)
+overflow_mul-result-3 c =
+    omega (arith, third (goal.at.overflow_mul-result-3 c).Else-rest-s, low (goal.at.overflow_mul-result-3 c).Start)
 
 pub overflow_add-result-3 : goal.overflow_add-result-3
-overflow_add-result-3 c = omega (arith, third (goal.at.overflow_add-result-3 c).Else-rest-s, low (goal.at.overflow_add-result-3 c).Start)
+overflow_add-result-3 c =
+    omega (arith, third (goal.at.overflow_add-result-3 c).Else-rest-s, low (goal.at.overflow_add-result-3 c).Start)
 
 pub returns : goal.returns
 returns c = sym (third (goal.at.returns c).Else-rest-s)

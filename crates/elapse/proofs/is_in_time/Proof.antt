@@ -18,7 +18,8 @@ before_the_end seconds after s a = by (eqb seconds 281474976710655) (leb second 
     by : (x y : Bool) → eqb seconds 281474976710655 ≡ x → leb second after ≡ y
         → not (x && y) ≡ ltb ((seconds * second + after) / 2 ^ 24) end_of_time
     by true true p q = rw (le-ltb ((seconds * second + after) / 2 ^ 24) end_of_time (omega (arith, eqb-true, leb-true)))
-    by true false p q = rw (lt-ltb ((seconds * second + after) / 2 ^ 24) end_of_time (omega (arith, eqb-true, leb-false)))
+    by true false p q =
+        rw (lt-ltb ((seconds * second + after) / 2 ^ 24) end_of_time (omega (arith, eqb-true, leb-false)))
     by false y p q =
         let n = eqb-false seconds 281474976710655 p in
         rw (lt-ltb ((seconds * second + after) / 2 ^ 24) end_of_time (omega arith))

@@ -22,7 +22,8 @@ use Rattle.ledger.proofs.Follow.OnTick.{tick_agrees}
 
 -- m ticks, of which the last returned the codes of an entry
 abbrev ticked : ℕ → Ledger → Entry → Ledger
-ticked m l x = ledger_edges (ledger_ticks m l) (edges_in 1 (ledger_ticks (m - 1) l) x) (edges_in 2 (ledger_ticks (m - 1) l) x)
+ticked m l x =
+    ledger_edges (ledger_ticks m l) (edges_in 1 (ledger_ticks (m - 1) l) x) (edges_in 2 (ledger_ticks (m - 1) l) x)
 
 -- the entry of a tick that returned nothing
 abbrev quiet : Entry

@@ -12,14 +12,18 @@ eight c = record { is = c.take_values-front.ensures }
 
 pub returns-then-not-front : goal.returns-then-not-front
 returns-then-not-front c =
-    c.no_line.ensures ∙ line_no_front (eight (goal.at.returns-then-not-front c).After-take_values-front) (not-true _ c.if-not-front.true)
+    c.no_line.ensures ∙ line_no_front (eight (goal.at.returns-then-not-front c).After-take_values-front)
+    (not-true _ c.if-not-front.true)
 
 pub slice_bounds-read_value-count : goal.slice_bounds-read_value-count
-slice_bounds-read_value-count c = front_inside (eight (goal.at.slice_bounds-read_value-count c).After-take_values-front) (not-false _ c.if-not-front.false)
+slice_bounds-read_value-count c =
+    front_inside (eight (goal.at.slice_bounds-read_value-count c).After-take_values-front)
+    (not-false _ c.if-not-front.false)
 
 pub slice_bounds-read_value-start : goal.slice_bounds-read_value-start
 slice_bounds-read_value-start c =
-    let inside = front_inside (eight (goal.at.slice_bounds-read_value-start c).After-take_values-front) (not-false _ c.if-not-front.false) in
+    let inside = front_inside (eight (goal.at.slice_bounds-read_value-start c).After-take_values-front)
+    (not-false _ c.if-not-front.false) in
     search rules
 
 pub returns-then-not-last : goal.returns-then-not-last

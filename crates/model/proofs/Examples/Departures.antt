@@ -45,7 +45,8 @@ departures =
     ∷ gives [] (recover_line 0 (ns_per_second * 2 ^ 16)) (1 ∷ 0 ∷ 0 ∷ 0 ∷ 0 ∷ [])
     ∷ gives [] (recover_line 3 (20 * ns_per_second * 2 ^ 16)) (20 ∷ 0 ∷ 0 ∷ 0 ∷ 0 ∷ [])
     -- neither changes words or time
-    ∷ gives (leaving ++ depart_line 0 ∷ recover_line 7 left ∷ []) (line 8 0 0 0 0 0) (16965 ∷ 15 ∷ 0 ∷ 52501 ∷ 1883 ∷ [])
+    ∷ gives (leaving ++ depart_line 0 ∷ recover_line 7 left ∷ []) (line 8 0 0 0 0 0)
+    (16965 ∷ 15 ∷ 0 ∷ 52501 ∷ 1883 ∷ [])
     ∷ gives (leaving ++ depart_line 0 ∷ recover_line 7 left ∷ []) (read 0) (16965 ∷ 15 ∷ 0 ∷ 52501 ∷ 1883 ∷ [])
     -- 16: with nothing added 2^63 - 1 stays; with 2^16 added it leaves, 2^63 - 2^16 too, and one less stays
     ∷ record {
@@ -58,7 +59,8 @@ departures =
     -- 17: the sign bit; and seconds of 2^48, where one less is a time
     ∷ record {
       found = answers (
-          recover_line 0 (2 ^ 63 - 1) ∷ recover_line 0 (2 ^ 63) ∷ recover_line (2 ^ 48 - 16) (15 * ns_per_second * 2 ^ 16)
+          recover_line 0 (2 ^ 63 - 1) ∷ recover_line 0 (2 ^ 63)
+          ∷ recover_line (2 ^ 48 - 16) (15 * ns_per_second * 2 ^ 16)
           ∷ recover_line (2 ^ 48 - 16) (16 * ns_per_second * 2 ^ 16) ∷ recover_line (2 ^ 48 - 1) 0
           ∷ recover_line (2 ^ 48 - 17) (16 * ns_per_second * 2 ^ 16 - 1)
           ∷ []

@@ -94,7 +94,7 @@ field_limits =
     ∷ to_each (command 8 0 0 0 0 0 0 0 0 ∷ command 8 1 0 0 0 0 0 0 0 ∷ unlisted 8 0) (0 ∷ 6 ∷ seven_sixes)
     -- op 6: bits of 0x3F7F
     ∷ to_each (
-    command 6 0x3_f7_f 0 0 0 0 0 0 0
+    command 6 0x3F7F 0 0 0 0 0 0 0
     ∷ command 6 (2 ^ 7) 0 0 0 0 0 0 0 ∷ command 6 (2 ^ 14) 0 0 0 0 0 0 0 ∷ command 6 (2 ^ 15) 0 0 0 0 0 0 0
     ∷ command 6 (2 ^ 16) 0 0 0 0 0 0 0
     ∷ unlisted 6 0

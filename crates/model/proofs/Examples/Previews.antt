@@ -44,5 +44,8 @@ previews =
     }
     -- 26 ns are left: 9 + 9 ns fit, and 8 more reach the end of time: 15
     ∷ gives near_the_end (preview_line 2) (65535 ∷ 65535 ∷ 65535 ∷ 51704 ∷ 15258 ∷ [])
-    ∷ record { found = answers (near_the_end ++ preview_line 2 ∷ preview_line 3 ∷ []); stated = 0 ∷ 0 ∷ 0 ∷ 0 ∷ 15 ∷ [] }
+    ∷ record {
+      found = answers (near_the_end ++ preview_line 2 ∷ preview_line 3 ∷ []);
+      stated = 0 ∷ 0 ∷ 0 ∷ 0 ∷ 15 ∷ [];
+    }
     ∷ []

@@ -172,7 +172,7 @@ part_limits =
     ∷ on_each (steering (8 * 2 ^ 32) no_adjustment (adjustment (2 ^ 32) 1) ∷ []) (4 ∷ [])
     -- the masks 0x3F37 and 0x3F7F, and each bit outside them
     ∷ on_each (
-    interrupts 0x3_f37 0x3_f7_f
+    interrupts 0x3F37 0x3F7F
     ∷ interrupts (2 ^ 3) 0 ∷ interrupts (2 ^ 6) 0 ∷ interrupts (2 ^ 7) 0 ∷ interrupts (2 ^ 14) 0
     ∷ interrupts (2 ^ 15) 0 ∷ interrupts (2 ^ 16) 0 ∷ interrupts 0 (2 ^ 7) ∷ interrupts 0 (2 ^ 14)
     ∷ interrupts 0 (2 ^ 15) ∷ interrupts 0 (2 ^ 16)

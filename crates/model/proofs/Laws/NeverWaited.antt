@@ -184,7 +184,8 @@ not_11 e c h z = true≢false (rw z at h)
 -- so every command of such a list gives what it gave
 one_same : (c : Command) (cs : List Command) (e : Engine) → Free e
     → none_got11 (history_by execute_before e (c ∷ cs)) ≡ true
-    → (execute e c ≡ execute_before e c) × (none_got11 (history_by execute_before (execute_before e c).engine cs) ≡ true)
+    → (execute e c ≡ execute_before e c)
+    × (none_got11 (history_by execute_before (execute_before e c).engine cs) ≡ true)
 unfolding history_by
 one_same c cs e free h =
     let first = both (not (eqb (execute_before e c).answer 11)) _ h in

@@ -35,7 +35,9 @@ after x =
     x.in_second.ensures x.amount_of.ensures
 
 pub overflow_add-after : goal.overflow_add-after
-overflow_add-after c = let p = c.requires in rw (after (goal.at.overflow_add-after c).After-amount_of) (omega (arith, after_low _ _ p))
+overflow_add-after c =
+    let p = c.requires in
+    rw (after (goal.at.overflow_add-after c).After-amount_of) (omega (arith, after_low _ _ p))
 
 pub is_in_time-requires : goal.is_in_time-requires
 is_in_time-requires c =
@@ -51,7 +53,8 @@ pub returns-then-is_in_time : goal.returns-then-is_in_time
 returns-then-is_in_time c =
     let p = c.requires in
     let ended = rw (after (goal.at.returns-then-is_in_time c).After-amount_of) at c.is_in_time.ensures in
-    let shown = c.time_words-time.ensures ∙ shows _ _ p _ (rw (after (goal.at.returns-then-is_in_time c).After-amount_of) at c.clock_at-k.ensures) in
+    let shown = c.time_words-time.ensures
+    ∙ shows _ _ p _ (rw (after (goal.at.returns-then-is_in_time c).After-amount_of) at c.clock_at-k.ensures) in
     rw (c.change_to.ensures, shown)
     (shown_gives _ _ p.on p.op p.passed (sym (in_time _ _ p) ∙ sym ended ∙ c.if-is_in_time.true))
 

@@ -58,7 +58,8 @@ edge_tick-tick1-requires c =
         clock = clock_in _ v.clock;
         in_here = c.in_second-here.ensures;
         steering = v.steering;
-        short = rw (within_is (goal.at.edge_tick-tick1-requires c).Joined-few-n) (amount_low _ v.steering _ (few_most _ v _ c.requires.1));
+        short = rw (within_is (goal.at.edge_tick-tick1-requires c).Joined-few-n)
+            (amount_low _ v.steering _ (few_most _ v _ c.requires.1));
       };
       generator = v.generator1;
     }
@@ -71,14 +72,16 @@ edge_tick-tick2-requires c =
         clock = clock_in _ v.clock;
         in_here = c.in_second-here.ensures;
         steering = v.steering;
-        short = rw (within_is (goal.at.edge_tick-tick2-requires c).Joined-few-n) (amount_low _ v.steering _ (few_most _ v _ c.requires.1));
+        short = rw (within_is (goal.at.edge_tick-tick2-requires c).Joined-few-n)
+            (amount_low _ v.steering _ (few_most _ v _ c.requires.1));
       };
       generator = v.generator2;
     }
 
 -- the numbers that are worked out: the ticks in time, and the first of them that has an edge
 numbers : (x : After-earlier-first)
-    → x.if-few-n.within ≡ amount_of x.args.e.steering (few x.args.e (valid_parts x.args.e x.requires.0) x.args.n x.requires.1)
+    → x.if-few-n.within ≡ amount_of x.args.e.steering
+    (few x.args.e (valid_parts x.args.e x.requires.0) x.args.n x.requires.1)
     → let e = x.args.e in
     let v = valid_parts e x.requires.0 in
     (x.ticks_in_time-few.result ≡ few e v x.args.n x.requires.1)
@@ -92,7 +95,9 @@ pub pass-requires : goal.pass-requires
 pass-requires c =
     let p = c.requires in
     let v = valid_parts _ p.0 in
-    let are = numbers (goal.at.pass-requires c).After-earlier-first (within_is (goal.at.pass-requires c).Joined-few-n) in record {
+    let are = numbers (goal.at.pass-requires c).After-earlier-first
+    (within_is (goal.at.pass-requires c).Joined-few-n) in
+    record {
       starting = record {
         on = p.0;
         in_here = c.in_second-here.ensures;
@@ -105,14 +110,16 @@ pub returns-then-first-eq0 : goal.returns-then-first-eq0
 returns-then-first-eq0 c =
     let p = c.requires in
     let v = valid_parts _ p.0 in
-    let are = numbers (goal.at.returns-then-first-eq0 c).After-earlier-first (within_is (goal.at.returns-then-first-eq0 c).Joined-few-n) in
+    let are = numbers (goal.at.returns-then-first-eq0 c).After-earlier-first
+    (within_is (goal.at.returns-then-first-eq0 c).Joined-few-n) in
     c.pass.ensures ∙ rw are.0 (ap ran_to (sym (found_none _ v _ p.1 (sym are.1 ∙ c.if-first-eq0.true))))
 
 pub meet-requires : goal.meet-requires
 meet-requires c =
     let p = c.requires in
     let v = valid_parts _ p.0 in
-    let are = numbers (goal.at.meet-requires c).After-earlier-first (within_is (goal.at.meet-requires c).Joined-few-n) in
+    let are = numbers (goal.at.meet-requires c).After-earlier-first
+    (within_is (goal.at.meet-requires c).Joined-few-n) in
     rw are.1
     (record {
       start = record {

@@ -45,7 +45,9 @@ stepped c =
 
 pub put_result-end-requires : goal.put_result-end-requires
 put_result-end-requires c =
-    line_room c.loop-at.invariant c.loop-at-test.true (line_read_lem (goal.at.put_result-end-requires c).After-next_at-next) _ (stepped (goal.at.put_result-end-requires c).Joined-m)
+    line_room c.loop-at.invariant c.loop-at-test.true
+    (line_read_lem (goal.at.put_result-end-requires c).After-next_at-next) _
+    (stepped (goal.at.put_result-end-requires c).Joined-m)
 
 -- the turn, from its end
 line_passed : (c : After-next_at-next)
@@ -63,12 +65,15 @@ overflow_add-k c =
     omega (arith, inv.numbered, inv.within, inv.short)
 
 pub loop-at-smaller : goal.loop-at-smaller
-loop-at-smaller c = let to = line_passed (goal.at.loop-at-smaller c).After-next_at-next in omega (arith, to.forth, to.inside)
+loop-at-smaller c =
+    let to = line_passed (goal.at.loop-at-smaller c).After-next_at-next in
+    omega (arith, to.forth, to.inside)
 
 pub loop-at-preserved : goal.loop-at-preserved
 loop-at-preserved c =
     rw (c.apply-e.ensures, moved_is (goal.at.loop-at-preserved c).Joined-m)
-    (run_on c.loop-at.invariant c.loop-at-test.true (line_read_lem (goal.at.loop-at-preserved c).After-next_at-next) _ (stepped (goal.at.loop-at-preserved c).Joined-m)
+    (run_on c.loop-at.invariant c.loop-at-test.true (line_read_lem (goal.at.loop-at-preserved c).After-next_at-next) _
+    (stepped (goal.at.loop-at-preserved c).Joined-m)
     c.put_result-end.ensures)
 
 pub returns : goal.returns

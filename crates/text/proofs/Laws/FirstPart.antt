@@ -14,7 +14,8 @@ use borrow.Author.Tests.{eq-eqb, ne_eqb}
 use Rattle.text.specs.Text.{into_parts, parts, first_part}
 
 -- the first part, byte by byte
-pub first_into : (t : Bool) (b : ℕ) (ps : List (List ℕ)) → get_or (into_parts t b ps) 0 [] ≡ cond t [] (b ∷ get_or ps 0 [])
+pub first_into : (t : Bool) (b : ℕ) (ps : List (List ℕ))
+    → get_or (into_parts t b ps) 0 [] ≡ cond t [] (b ∷ get_or ps 0 [])
 first_into true b ps = refl
 first_into false b [] = refl
 first_into false b (p ∷ ps) = refl

@@ -23,7 +23,8 @@ passed true v w some h = (refl, h)
 passed false v w some h = absurd (omega (arith, ap (λ r. r.answer) h))
 
 -- a line in front of others
-rows_first : (f : Form) (l : List ℕ) (ps : List (List ℕ)) → 0 < length ps → rows_of f (l ∷ ps) ≡ row_in f l ∷ rows_of f ps
+rows_first : (f : Form) (l : List ℕ) (ps : List (List ℕ)) → 0 < length ps
+    → rows_of f (l ∷ ps) ≡ row_in f l ∷ rows_of f ps
 rows_first f l [] h = absurd (omega arith)
 rows_first f l (p ∷ ps) h = refl
 

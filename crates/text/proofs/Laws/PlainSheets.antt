@@ -14,7 +14,8 @@ use Rattle.text.proofs.Laws.Splits.{LackAll}
 use Rattle.text.proofs.Laws.Lines.{decimals, eithers}
 
 -- the parts of a text lack what it lacks
-into_lacks : (x : ℕ) (t : Bool) (b : ℕ) (ps : List (List ℕ)) → (b ≡ x → ⊥) → LackAll x ps → LackAll x (into_parts t b ps)
+into_lacks : (x : ℕ) (t : Bool) (b : ℕ) (ps : List (List ℕ)) → (b ≡ x → ⊥) → LackAll x ps
+    → LackAll x (into_parts t b ps)
 into_lacks x true b ps n h = (tt, h)
 into_lacks x false b [] n h = ((n, tt), tt)
 into_lacks x false b (p ∷ ps) n h = ((n, h.0), h.1)
@@ -29,7 +30,8 @@ rest_lacks x (suc k) [] h = tt
 rest_lacks x (suc k) (b ∷ bs) h = rest_lacks x k bs h.1
 
 each_plain : (k : ℕ) (ps : List (List ℕ)) → LackAll 120 ps
-    → (reads_each (eithers k) ps ≡ reads_each (decimals k) ps) × (numbers_of (eithers k) ps ≡ numbers_of (decimals k) ps)
+    → (reads_each (eithers k) ps ≡ reads_each (decimals k) ps)
+    × (numbers_of (eithers k) ps ≡ numbers_of (decimals k) ps)
 each_plain zero [] h = (refl, refl)
 each_plain zero (p ∷ ps) h = (refl, refl)
 each_plain (suc k) [] h = (refl, refl)

@@ -19,7 +19,8 @@ no_prefix (b ∷ []) h = and-false (eqb b 48)
 no_prefix (b ∷ c ∷ bs) h = rw (not-true (eqb b 48) h) refl
 
 -- a value in decimal, and one in base 16
-pub decimal_value_lem : (bs : List ℕ) → is_number 10 bs ≡ true → (is_value bs ≡ true) × (number_of bs ≡ number_after 10 0 bs)
+pub decimal_value_lem : (bs : List ℕ) → is_number 10 bs ≡ true
+    → (is_value bs ≡ true) × (number_of bs ≡ number_after 10 0 bs)
 unfolding is_value number_of
 decimal_value_lem bs h = (rw h refl, rw (no_prefix bs (number_in 10 bs h).0) refl)
 
@@ -31,7 +32,8 @@ module _ (bs : List ℕ) (starts : starts_with base_prefix bs ≡ true) where
       by true e = absurd (false≢true (rw (no_prefix bs (number_in 10 bs e).0) at starts))
       by false e = e
 
-  pub base16_value_lem : is_number 16 (drop 2 bs) ≡ true → (is_value bs ≡ true) × (number_of bs ≡ number_after 16 0 (drop 2 bs))
+  pub base16_value_lem : is_number 16 (drop 2 bs) ≡ true
+      → (is_value bs ≡ true) × (number_of bs ≡ number_after 16 0 (drop 2 bs))
   unfolding is_value number_of
   base16_value_lem h = (rw (not_decimal, starts, h) refl, rw starts refl)
 

@@ -9,7 +9,8 @@ abbrev pub invariant-loop-i : goal.invariant-loop-i
 invariant-loop-i l =
     (l.from ≤ l.i)
     × (l.i ≤ length l.s)
-    × (length (first_part l.separator (drop l.from l.s)) ≡ (l.i - l.from) + length (first_part l.separator (drop l.i l.s)))
+    × (length (first_part l.separator (drop l.from l.s))
+    ≡ (l.i - l.from) + length (first_part l.separator (drop l.i l.s)))
 
 abbrev pub decreases-loop-i : goal.decreases-loop-i
 decreases-loop-i l = length l.s - l.i

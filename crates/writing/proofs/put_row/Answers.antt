@@ -14,7 +14,8 @@ put_number-end-requires c =
 
 pub loop-i-init : goal.loop-i-init
 loop-i-init c =
-    let begun = row_begun c.args.numbers.now c.requires.numbers_nonzero c.requires.numbers_in_bounds c.put_number-end.ensures in
+    let begun = row_begun c.args.numbers.now c.requires.numbers_nonzero c.requires.numbers_in_bounds
+    c.put_number-end.ensures in
     rest_whole begun.room
 
 pub put_byte-end-requires : goal.put_byte-end-requires
@@ -42,6 +43,7 @@ put_byte-requires c =
 
 pub returns : goal.returns
 returns c =
-    let begun = row_begun c.args.numbers.now c.requires.numbers_nonzero c.requires.numbers_in_bounds c.put_number-end.ensures in
+    let begun = row_begun c.args.numbers.now c.requires.numbers_nonzero c.requires.numbers_in_bounds
+    c.put_number-end.ensures in
     let end = row_end _ _ c.loop-i-test.false in
     rest_last begun (rest_none (rest_less c.loop-i.invariant end c.put_byte.ensures))

@@ -12,10 +12,12 @@ two : (c : After-has_prefix) → c.has_prefix.result ≡ true → 2 ≤ length c
 two c h = prefix_long c.args.s.now (sym c.has_prefix.ensures ∙ h)
 
 pub slice_bounds-read_digits_16-count : goal.slice_bounds-read_digits_16-count
-slice_bounds-read_digits_16-count c = two (goal.at.slice_bounds-read_digits_16-count c).After-has_prefix c.if-has_prefix.true
+slice_bounds-read_digits_16-count c =
+    two (goal.at.slice_bounds-read_digits_16-count c).After-has_prefix c.if-has_prefix.true
 
 pub slice_bounds-read_digits_16-start : goal.slice_bounds-read_digits_16-start
-slice_bounds-read_digits_16-start c = two (goal.at.slice_bounds-read_digits_16-start c).After-has_prefix c.if-has_prefix.true
+slice_bounds-read_digits_16-start c =
+    two (goal.at.slice_bounds-read_digits_16-start c).After-has_prefix c.if-has_prefix.true
 
 pub returns-then-has_prefix : goal.returns-then-has_prefix
 returns-then-has_prefix c =
