@@ -46,6 +46,7 @@ fn put_results(s: &[u8], out: &mut [u8], from: usize) -> usize
 
 // The whole sheet. The results stand at the front of the buffer, and their length is returned; a buffer of fewer than
 // 138,309 bytes is left as it was, and 0 is returned.
+#[tactic(auto, using(crate::proofs::Whole::ran_short))]
 pub fn run_sheet(s: &[u8], out: &mut [u8]) -> usize
     ensures { Ran s.now out.old out.new result }
 {

@@ -1,5 +1,4 @@
 -- Each turn writes the line of the next command, so the lines written and those of the commands left are all of them.
-use Prim.Native.Nat.{◌-◌}
 use mathlib.Core.Path.{◌≡◌, refl, sym, ◌∙◌}
 use mathlib.Core.Bool.{cond}
 use native.Mathlib.Omega.{arith}

@@ -26,6 +26,6 @@ pub returns : goal.returns
 returns c ok =
     let bytes = c.type_inv.s in
     rw c.ticks_line_to-2.ensures
-    (ticks_found _ c.loop-i.invariant (λ j. omega (arith, bytes j)) (search rules) c.if-s-from-lt49.false
+    (ticks_found _ c.loop-i.invariant (λ j. omega (arith, bytes j)) (search rules) (omega arith)
     (sym c.eight_at.ensures ∙ c.if-eight_at-ne-ZEROS_BEHIND.false)
     (sym c.eight_at-2.ensures ∙ c.if-eight_at-ne-ZEROS_TO_END.false))
