@@ -3,6 +3,7 @@ use mathlib.Core.Path.{◌≡◌, sym, ap, ◌∙◌}
 use Rattle.model.specs.Elapse.{amount_of}
 use Rattle.model.proofs.Laws.InRange.{valid_parts, clock_in}
 use Rattle.elapse.proofs.Numbers.{amount_low}
+use Rattle.reach.specs.Asked.{InTime}
 use Rattle.run.specs.Runs.{ran_to}
 use Rattle.run.proofs.Found.{few, first, few_most, few_all, few_is, numbers_are, found_none, first_most}
 use Rattle.run.proofs.Found.{found_ticks, found_edge}
@@ -50,33 +51,29 @@ within_is c =
           ∙ ap (amount_of s) (few_all _ v _ c.requires.1 _ is w.if-few-n.false)
     ]
 
-pub edge_tick-tick1-requires : goal.edge_tick-tick1-requires
-edge_tick-tick1-requires c =
+-- what both searches for an edge ask of the clock and the steering
+in_time : (c : Joined-few-n)
+    → InTime c.args.e.clock c.in_second-here.result c.args.e.steering c.if-few-n.within
+in_time c =
     let v = valid_parts _ c.requires.0 in
     record {
-      in_time = record {
-        clock = clock_in _ v.clock;
-        in_here = c.in_second-here.ensures;
-        steering = v.steering;
-        short = rw (within_is (goal.at.edge_tick-tick1-requires c).Joined-few-n)
-            (amount_low _ v.steering _ (few_most _ v _ c.requires.1));
-      };
-      generator = v.generator1;
+      clock = clock_in _ v.clock;
+      in_here = c.in_second-here.ensures;
+      steering = v.steering;
+      short = rw (within_is c) (amount_low _ v.steering _ (few_most _ v _ c.requires.1));
     }
 
+pub edge_tick-tick1-requires : goal.edge_tick-tick1-requires
+edge_tick-tick1-requires c = record {
+  in_time = in_time (goal.at.edge_tick-tick1-requires c).Joined-few-n;
+  generator = (valid_parts _ c.requires.0).generator1;
+}
+
 pub edge_tick-tick2-requires : goal.edge_tick-tick2-requires
-edge_tick-tick2-requires c =
-    let v = valid_parts _ c.requires.0 in
-    record {
-      in_time = record {
-        clock = clock_in _ v.clock;
-        in_here = c.in_second-here.ensures;
-        steering = v.steering;
-        short = rw (within_is (goal.at.edge_tick-tick2-requires c).Joined-few-n)
-            (amount_low _ v.steering _ (few_most _ v _ c.requires.1));
-      };
-      generator = v.generator2;
-    }
+edge_tick-tick2-requires c = record {
+  in_time = in_time (goal.at.edge_tick-tick2-requires c).Joined-few-n;
+  generator = (valid_parts _ c.requires.0).generator2;
+}
 
 -- the numbers that are worked out: the ticks in time, and the first of them that has an edge
 numbers : (x : After-earlier-first)

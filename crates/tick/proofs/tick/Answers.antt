@@ -1,27 +1,29 @@
 -- The two checks of a tick in the table's order, then the cycle.
 use mathlib.Core.Path.{sym, ◌∙◌}
 use Rattle.model.proofs.Laws.InRange.{valid_parts, clock_in}
+use Rattle.tick.specs.Ticks.{Ticks}
 use Rattle.tick.proofs.Checked.{fields_refused, late_refused, ticks, cycle_gives}
 use Rattle.tick.proofs.tick.Goals as goal
+use Rattle.tick.proofs.tick.Goals.{Then-has_time_left}
 
 pub has_time_left-requires : goal.has_time_left-requires
 has_time_left-requires c =
     let v = valid_parts _ c.requires.e_value in
     (clock_in _ v.clock, v.steering)
 
-pub cycle-requires : goal.cycle-requires
-cycle-requires c =
+-- the tick that is done: both checks passed
+ticking : (c : Then-has_time_left) → Ticks c.args.e c.args.c
+ticking c =
     ticks _ _ c.requires.e_value c.requires.op_value
     (sym c.tick_fields.ensures ∙ c.if-tick_fields.true)
     (sym c.has_time_left.ensures ∙ c.if-has_time_left.true)
 
+pub cycle-requires : goal.cycle-requires
+cycle-requires c = ticking (goal.at.cycle-requires c).Then-has_time_left
+
 pub returns-then-has_time_left : goal.returns-then-has_time_left
 returns-then-has_time_left c =
-    rw c.cycle.ensures
-    (cycle_gives _ _
-    (ticks _ _ c.requires.e_value c.requires.op_value
-    (sym c.tick_fields.ensures ∙ c.if-tick_fields.true)
-    (sym c.has_time_left.ensures ∙ c.if-has_time_left.true)))
+    rw c.cycle.ensures (cycle_gives _ _ (ticking (goal.at.returns-then-has_time_left c).Then-has_time_left))
 
 pub returns-then-tick_fields : goal.returns-then-tick_fields
 returns-then-tick_fields c =
