@@ -5,6 +5,7 @@
 ghost use Rattle.std.specs.Prelude.{◌≡◌, ◌+◌, ◌*◌, ◌/◌, ◌%◌, ◌^◌, ◌<◌};
 
 // Bits low to low + width - 1 of x.
+#[tactic(auto, using(crate::proofs::Masks::and_ones))]
 pub fn field(x: u64, low: u64, width: u64) -> u64
     requires { (low < 64) × (width < 64) }
     ensures { result ≡ x / 2 ^ low % 2 ^ width }
@@ -13,6 +14,7 @@ pub fn field(x: u64, low: u64, width: u64) -> u64
 }
 
 // The number with high above the k bits of low.
+#[tactic(auto, using(crate::proofs::Masks::or_shifted_low))]
 pub fn join(high: u64, low: u64, k: u64) -> u64
     requires { (k < 64) × (low < 2 ^ k) × (high * 2 ^ k < 2 ^ 64) }
     ensures { result ≡ high * 2 ^ k + low }

@@ -1,2 +1,3 @@
--- What a command gives and changes.
+-- What a command gives and changes, and why it is refused.
+pub mod Refusals
 pub mod Changes

@@ -1,2 +1,2 @@
--- Why the list of checks, line by line, gives the first that fails.
+-- The list of checks, by op.
 pub mod Table

@@ -1,2 +1,2 @@
--- One line of the ordered list.
-pub mod First
+-- What the checks below number 6 begin with.
+pub mod Listed

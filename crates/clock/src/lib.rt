@@ -12,16 +12,21 @@ ghost use Rattle.model.specs.Bounds.{ClockRange};
 ghost use Rattle.clock.specs.Cycle.{steered_of, Cycle};
 
 use model::{Adjustment, Clock, NS_PER_SECOND, STEP_UNIT, Steering};
-use tests::{both, either, pick};
 
 // PER_ADJ while an adjustment has cycles left, else PERIOD.
+#[tactic(auto, unfolding(model::specs::Clock::cycle_amount))]
 pub fn cycle_amount(s: Steering) -> u64
     ensures { result ≡ cycle_amount s }
 {
-    pick(s.adjustment.cycles == 0, s.period, s.adjustment.amount)
+    if s.adjustment.cycles == 0 {
+        s.period
+    } else {
+        s.adjustment.amount
+    }
 }
 
 // What a tick adds to the time shown, in 1/256 ns.
+#[tactic(auto, unfolding(model::specs::Clock::step_by))]
 pub fn step_by(k: Clock, amount: u64) -> u64
     requires { (k.remainder < 2 ^ 24) × (amount < 2 ^ 40) }
     ensures { result ≡ step_by k amount }
@@ -36,7 +41,7 @@ pub fn tick_clock(k: Clock, amount: u64, step: u64) -> Clock
 {
     let fraction = k.fraction + step;
     let nanoseconds = k.nanoseconds + fraction / 256;
-    let carry = pick(NS_PER_SECOND <= nanoseconds, 1, 0);
+    let carry = u64::from(NS_PER_SECOND <= nanoseconds);
     Clock {
         seconds: k.seconds + carry,
         nanoseconds: nanoseconds - carry * NS_PER_SECOND,
@@ -50,64 +55,49 @@ pub fn set_clock(seconds: u64, nanoseconds: u64) -> Clock
     ensures { result ≡ clock_set seconds nanoseconds }
 {
     Clock {
-        seconds: seconds,
-        nanoseconds: nanoseconds,
-        fraction: 0,
-        remainder: 0,
+        seconds,
+        nanoseconds,
+        ..Clock::default()
     }
 }
 
 pub fn no_adjustment() -> Adjustment
     ensures { result ≡ no_adjustment }
 {
-    Adjustment {
-        amount: 0,
-        cycles: 0,
-    }
+    Adjustment::default()
 }
 
 // The steering with one adjustment more: it runs at once where none runs, and waits behind one that does.
+#[tactic(auto, unfolding(model::specs::Clock::adjusted_by))]
 pub fn adjust(s: Steering, j: Adjustment) -> Steering
     ensures { result ≡ adjusted_by s j }
 {
     if s.adjustment.cycles == 0 {
-        let behind = s.waiting;
-        return Steering {
-            period: s.period,
-            adjustment: j,
-            waiting: behind,
-        };
-    }
-    let running = s.adjustment;
-    Steering {
-        period: s.period,
-        adjustment: running,
-        waiting: j,
+        Steering { adjustment: j, ..s }
+    } else {
+        Steering { waiting: j, ..s }
     }
 }
 
 // The steering after a tick: the adjustment loses a cycle, and with its last the one that waits becomes the running
 // one.
+#[tactic(auto, unfolding(model::specs::Clock::steering_after, model::specs::Clock::last_cycle))]
 fn steering_after(s: Steering) -> Steering
     ensures { result ≡ steering_after s }
 {
-    let j = s.adjustment;
-    if j.cycles == 1 {
-        let next = s.waiting;
+    if s.adjustment.cycles == 1 {
         return Steering {
-            period: s.period,
-            adjustment: next,
+            adjustment: s.waiting,
             waiting: no_adjustment(),
+            ..s
         };
     }
-    let waiting = s.waiting;
     Steering {
-        period: s.period,
         adjustment: Adjustment {
-            amount: j.amount,
-            cycles: j.cycles - pick(j.cycles == 0, 0, 1),
+            cycles: s.adjustment.cycles.saturating_sub(1),
+            ..s.adjustment
         },
-        waiting: waiting,
+        ..s
     }
 }
 
@@ -120,6 +110,7 @@ pub struct Steered {
     pub last: bool,
 }
 
+#[tactic(auto, unfolding(model::specs::Clock::last_cycle))]
 pub fn steer(s: Steering) -> Steered
     ensures { result ≡ steered_of s }
 {
@@ -135,10 +126,7 @@ fn ends_in_time(k: Clock, step: u64) -> bool
     requires { (ClockRange k) × (step ≤ 65536) }
     ensures { result ≡ ltb (shown k + step) end_of_time }
 {
-    either(
-        k.seconds < 0xFFFF_FFFF_FFFF,
-        k.nanoseconds * 256 + k.fraction + step < 256_000_000_000,
-    )
+    k.seconds < 0xFFFF_FFFF_FFFF || k.nanoseconds * 256 + k.fraction + step < 256_000_000_000
 }
 
 // The next tick by this steering ends within the last second.
@@ -160,14 +148,6 @@ pub fn is_not_past(k: Clock, seconds: u64, nanoseconds: u64) -> bool
     }
     let second = seconds + nanoseconds / NS_PER_SECOND;
     let rest = nanoseconds % NS_PER_SECOND;
-    either(
-        k.seconds < second,
-        both(
-            k.seconds == second,
-            either(
-                k.nanoseconds < rest,
-                both(k.nanoseconds == rest, k.fraction == 0),
-            ),
-        ),
-    )
+    k.seconds < second
+        || k.seconds == second && (k.nanoseconds < rest || k.nanoseconds == rest && k.fraction == 0)
 }

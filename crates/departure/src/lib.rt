@@ -3,32 +3,23 @@
 // checks, and is the model's (specs/Departure.antt). Document 02, A.7; sheet 000, 6.13.7.3.2.
 #![tactic(auto)]
 
-ghost use Rattle.std.specs.Prelude.{◌≡◌, ◌^◌, ◌<◌, true, false, pos, ◌+ℤ◌};
-ghost use Rattle.model.specs.Words.{no_words};
+ghost use Rattle.std.specs.Prelude.{◌≡◌, ◌^◌, ◌<◌, true, pos, ◌+ℤ◌};
 ghost use Rattle.model.specs.Departure.{signed, fits64, departure as departure_spec, four_words, seconds_since};
 ghost use Rattle.model.specs.Ranges.{valid};
 ghost use Rattle.model.specs.Bounds.{ClockRange};
 ghost use Rattle.model.specs.Execute.{execute};
-ghost use Rattle.change.specs.Changes.{change_to, Gives};
+ghost use Rattle.change.specs.Changes.{Gives};
 
 use bits::field;
-use change::{Change, change_to};
+use change::{Change, Refusal, change_to, ensure};
 use model::{Clock, Command, Engine, NS_PER_SECOND, SECONDS_LIMIT, Words};
-use std::num::wrapping_add_u64;
-use words::{no_words, time_words};
+use words::time_words;
 
 // The sign bit of a field.
 const SIGN: u64 = 0x8000_0000_0000_0000;
 
 // The 2^-16 ns in a nanosecond.
 const UNITS: u64 = 0x1_0000;
-
-// A refusal: the number, five zeros, the same record.
-fn refused(e: Engine, number: u64) -> Change
-    ensures { result ≡ change_to number no_words e false }
-{
-    change_to(number, no_words(), e, false)
-}
 
 // The low four bits of the shown seconds and the shown ns, in 2^-16 ns.
 fn departure(k: Clock) -> u64
@@ -43,10 +34,7 @@ fn stays_signed(field: u64, added: u64) -> bool
     requires { added < 2 ^ 50 }
     ensures { result ≡ fits64 (signed field +ℤ pos added) }
 {
-    if SIGN <= field {
-        return true;
-    }
-    field + added < SIGN
+    SIGN <= field || field + added < SIGN
 }
 
 // A pattern as four words, lowest first.
@@ -63,20 +51,16 @@ fn four_words(p: u64) -> Words
 }
 
 // Op 11 on a valid record.
-pub fn depart(e: Engine, c: Command) -> Change
+pub fn depart(e: Engine, c: Command) -> Result<Change, Refusal>
     requires e_value { valid e ≡ true }
     requires op_value { c.op ≡ 11 }
     ensures { Gives e c (execute e c) result }
 {
-    if !fields::depart_fields(c) {
-        return refused(e, 6);
-    }
+    ensure(fields::depart_fields(c), Refusal::Fields)?;
     let added = departure(e.clock);
-    if stays_signed(c.a, added) {
-        let words = four_words(wrapping_add_u64(c.a, added));
-        return change_to(0, words, e, false);
-    }
-    refused(e, 16)
+    ensure(stays_signed(c.a, added), Refusal::FieldFull)?;
+    let words = four_words(c.a.wrapping_add(added));
+    Ok(change_to(words, e, false))
 }
 
 // From the software second a on to the field's: its seconds without the low four bits of a, and 16 more where that is
@@ -87,28 +71,23 @@ fn seconds_since(a: u64, seconds: u64) -> u64
 {
     let low = a % 16;
     if seconds < low {
-        return seconds + 16 - low;
+        seconds + 16 - low
+    } else {
+        seconds - low
     }
-    seconds - low
 }
 
 // Op 12 on a valid record.
-pub fn recover(e: Engine, c: Command) -> Change
+pub fn recover(e: Engine, c: Command) -> Result<Change, Refusal>
     requires e_value { valid e ≡ true }
     requires op_value { c.op ≡ 12 }
     ensures { Gives e c (execute e c) result }
 {
-    if !fields::recover_fields(c) {
-        return refused(e, 6);
-    }
-    if SIGN <= c.b {
-        return refused(e, 17);
-    }
+    ensure(fields::recover_fields(c), Refusal::Fields)?;
+    ensure(c.b < SIGN, Refusal::NoDeparture)?;
     let ns = c.b / UNITS;
     let seconds = c.a + seconds_since(c.a, ns / NS_PER_SECOND);
-    if seconds < SECONDS_LIMIT {
-        let time = time_words(seconds, ns % NS_PER_SECOND, 0);
-        return change_to(0, time, e, false);
-    }
-    refused(e, 17)
+    ensure(seconds < SECONDS_LIMIT, Refusal::NoDeparture)?;
+    let time = time_words(seconds, ns % NS_PER_SECOND, 0);
+    Ok(change_to(time, e, false))
 }

@@ -2,150 +2,94 @@
 -- may stop at once. A text that leads well has no 0 in front of an x, so how it leads tells its writing.
 use mathlib.Core.Path.{◌≡◌, refl, sym, ◌∙◌}
 use mathlib.Core.List.{List, [], ◌∷◌}
-use mathlib.Core.Bool.{Bool, true, false, ◌&&◌, and-true, and-false, or-false, not, cond, false≢true}
-use Prim.Native.Nat.{ℕ, suc, ◌+◌, ◌*◌, ◌/◌, ◌%◌, ◌^◌, ◌≤◌, ◌<◌}
-use native.Mathlib.Numerals.{add-one}
+use mathlib.Core.Bool.{Bool, true, false, ◌&&◌, ◌||◌, and-true, and-false, cond, false≢true}
+use Prim.Native.Nat.{ℕ, ◌+◌, ◌*◌, ◌/◌, ◌%◌, ◌^◌, ◌≤◌, ◌<◌}
 use native.Mathlib.Nat.{zero-add, add-sub_cancel_left}
 use native.Mathlib.Omega.{arith}
-use lib.Dec.{eqb, ltb}
+use lib.Dec.{ltb}
 use lib.ListN.{length, get_or, drop}
-use lib.Seq.{drop-cons}
-use borrow.Author.Tests.{lt-ltb, le-ltb, ltb-false, eq-eqb, ne_eqb}
-use Rattle.text.specs.declared.Value.{Value}
+use borrow.Author.Tests.{lt-ltb, le-ltb, ltb-true, ltb-false, ne_eqb}
+use Rattle.std.specs.Prelude.{Option, Some, None, option_and_then}
 use Rattle.text.specs.Text.{digit_of, all_digits, number_after, leads_well, is_number, starts_with, base_prefix}
-use Rattle.text.specs.Text.{is_value}
-use Rattle.text.specs.Text.{number_of, no_value, value_of}
-use Rattle.text.proofs.Laws.Digits.{number_grows, decimal_byte}
-use Rattle.text.proofs.Laws.Values.{decimal_value_lem, no_prefix}
+use Rattle.text.specs.Text.{is_value, number_of, value_of}
+use Rattle.text.proofs.Laws.Digits.{number_grows, decimal_byte, number_in as is_in}
+use Rattle.text.proofs.Laws.Values.{no_prefix}
 use Rattle.digits.specs.Digits.{digit_after, number_in, base16_in}
 
--- one digit more, or none
-module _ (base v b : ℕ) where
-  pub no_digit : base ≤ digit_of b → no_value ≡ digit_after base v b
-  no_digit h = rw (le-ltb (digit_of b) base h) refl
+-- what v becomes when digits of a base are written after it one by one, while it stays below 2^64
+abbrev pub read_after : (base v : ℕ) → List ℕ → Option ℕ
+read_after base v [] = Some v
+read_after base v (b ∷ bs) = option_and_then (λ n. read_after base n bs) (digit_after base v b)
 
-  pub too_large : 2 ^ 64 ≤ v * base + digit_of b → no_value ≡ digit_after base v b
-  too_large h = rw (le-ltb (v * base + digit_of b) (2 ^ 64) h, and-false (ltb (digit_of b) base)) refl
-
-  pub digit_more : digit_of b < base → v * base + digit_of b < 2 ^ 64
-      → record { ok = true; number = v * base + digit_of b } ≡ digit_after base v b
-  digit_more h l = rw (lt-ltb (digit_of b) base h, lt-ltb (v * base + digit_of b) (2 ^ 64) l) refl
-
-abbrev value_if : Bool → ℕ → Value
-value_if test n = cond test (record { ok = true; number = n }) no_value
-
--- whether there is a number is told by its mark
-number_if : (t : Bool) (n : ℕ) → (value_if t n).ok ≡ t
-number_if true n = refl
-number_if false n = refl
-
-number_test : (s : List ℕ) (r : Value) → r ≡ number_in 10 s → (t : Bool) → r.ok ≡ t → is_number 10 s ≡ t
-number_test s r e t h = sym (number_if (is_number 10 s) (number_after 10 0 s)) ∙ (rw e at h)
-
--- the value that v becomes when digits of a base are written after it
-abbrev pub read_after : (base v : ℕ) → List ℕ → Value
-read_after base v bs = value_if (all_digits base bs && ltb (number_after base v bs) (2 ^ 64)) (number_after base v bs)
+-- the number of them all, if it is below 2^64
+abbrev number_if : (base v : ℕ) → List ℕ → Option ℕ
+number_if base v bs =
+    cond (all_digits base bs && ltb (number_after base v bs) (2 ^ 64)) (Some (number_after base v bs)) None
 
 module _ (base : ℕ) (some : 1 ≤ base) where
-  -- n is the number after the next digit
-  read_step : (n : ℕ) (bs : List ℕ) (next : Value) (digit fits : Bool) → ltb n (2 ^ 64) ≡ fits
-      → next ≡ value_if (digit && fits) n
-      → value_if (digit && all_digits base bs && ltb (number_after base n bs) (2 ^ 64)) (number_after base n bs)
-      ≡ cond next.ok (read_after base next.number bs) no_value
-  read_step n bs next false fits h e = rw e
-  read_step n bs next true true h e = rw e
-  read_step n bs next true false h e =
+  one_more : (n : ℕ) (bs : List ℕ) → (n < 2 ^ 64 → read_after base n bs ≡ number_if base n bs) → (digit fits : Bool)
+      → ltb n (2 ^ 64) ≡ fits
+      → option_and_then (λ m. read_after base m bs) (cond (digit && fits) (Some n) None)
+      ≡ cond (digit && all_digits base bs && ltb (number_after base n bs) (2 ^ 64)) (Some (number_after base n bs)) None
+  one_more n bs rest false fits h = refl
+  one_more n bs rest true true h = rest (ltb-true n (2 ^ 64) h)
+  one_more n bs rest true false h =
       let large : 2 ^ 64 ≤ number_after base n bs =
       omega (arith, ltb-false n (2 ^ 64) h, number_grows base n bs some) in
-      rw (e, le-ltb (number_after base n bs) (2 ^ 64) large, and-false)
+      rw (le-ltb (number_after base n bs) (2 ^ 64) large, and-false)
 
-  -- what all the bytes make, the next number makes with those that are left
-  pub read_turn : {whole : Value} {ok : Bool} (s : List ℕ) (i v : ℕ) (next : Value) → i < length s
-      → next ≡ digit_after base v (get_or s i 0)
-      → next.ok ≡ ok
-      → read_after base v (drop i s) ≡ whole
-      → cond ok (read_after base next.number (drop (i + 1) s)) no_value ≡ whole
-  read_turn s i v next l e h here =
-      let b = get_or s i 0 in
-      let step = read_step (v * base + digit_of b) (drop (suc i) s) next (ltb (digit_of b) base) _ refl e in
-      rw (← h, add-one) (sym step ∙ rw (drop-cons s i 0) at here)
+  all_read : (v : ℕ) (bs : List ℕ) → v < 2 ^ 64 → read_after base v bs ≡ number_if base v bs
+  all_read v [] h = rw (lt-ltb v (2 ^ 64) h) refl
+  all_read v (b ∷ bs) h =
+      let n = v * base + digit_of b in
+      one_more n bs (all_read n bs) (ltb (digit_of b) base) _ refl
 
-  -- digits that lead well make a number, and others none
-  pub number_leads : (s : List ℕ) → leads_well s ≡ true → read_after base 0 s ≡ number_in base s
-  unfolding is_number
-  number_leads s h = rw h refl
+-- digits that lead well make a number, and others none
+pub number_leads : (base : ℕ) (s : List ℕ) → 1 ≤ base → true ≡ leads_well s → read_after base 0 s ≡ number_in base s
+unfolding is_number
+number_leads base s some h = rw (← h, all_read base some 0 s (omega arith)) refl
 
-  pub number_leads_not : (s : List ℕ) → leads_well s ≡ false → no_value ≡ number_in base s
-  unfolding is_number
-  number_leads_not s h = rw h refl
-
--- a text that leads well is a value in decimal or none
-value_leads : (s : List ℕ) → leads_well s ≡ true → read_after 10 0 s ≡ value_of s
-unfolding is_value number_of value_of is_number
-value_leads s h = rw (no_prefix s h, h, or-false) refl
-
--- what is no number in decimal is a value in base 16 or none
-pub value_decimal : (s : List ℕ) (r : Value) → r ≡ number_in 10 s → r.ok ≡ true → r ≡ value_of s
-unfolding value_of
-value_decimal s r e h =
-    let value = decimal_value_lem s (number_test s r e true h) in
-    e ∙ rw (number_test s r e true h, value.0, value.1) refl
-
-pub value_base_16 : (s : List ℕ) (r : Value) → r ≡ number_in 10 s → r.ok ≡ false → base16_in s ≡ value_of s
-unfolding is_value number_of value_of
-value_base_16 s r e h = rw (number_test s r e false h) (by (starts_with base_prefix s))
-  where
-    by : (t : Bool)
-        → cond t (number_in 16 (drop 2 s)) no_value
-        ≡ value_if (t && is_number 16 (drop 2 s)) (cond t (number_after 16 0 (drop 2 s)) (number_after 10 0 s))
-    by true = refl
-    by false = refl
-
--- 0x in front is told byte by byte
-pub prefix_short : (s : List ℕ) → length s < 2 → false ≡ starts_with base_prefix s
-prefix_short [] h = refl
-prefix_short (b ∷ []) h = sym (and-false (eqb b 48))
-prefix_short (b ∷ c ∷ bs) h = absurd (omega arith)
-
-pub prefix_long : (s : List ℕ) → starts_with base_prefix s ≡ true → 2 ≤ length s
-prefix_long [] h = absurd (false≢true h)
-prefix_long (b ∷ []) h = absurd (false≢true (sym (and-false (eqb b 48)) ∙ h))
-prefix_long (b ∷ c ∷ bs) h = omega arith
-
-pub prefix_other : (s : List ℕ) → 2 ≤ length s → (get_or s 0 0 ≡ 48 → ⊥) → false ≡ starts_with base_prefix s
-prefix_other [] h n = absurd (omega arith)
-prefix_other (b ∷ bs) h n = rw (ne_eqb b 48 n) refl
-
-pub prefix_second : (s : List ℕ) → 2 ≤ length s → get_or s 0 0 ≡ 48 → eqb (get_or s 1 0) 120 ≡ starts_with base_prefix s
-prefix_second [] h e = absurd (omega arith)
-prefix_second (b ∷ []) h e = absurd (omega arith)
-prefix_second (b ∷ c ∷ bs) h e = rw (eq-eqb b 48 e, and-true (eqb c 120)) refl
-
-pub leads_by_length : (s : List ℕ)
-    → leads_well s ≡ cond (eqb (length s) 0) false (cond (eqb (length s) 1) true (not (eqb (get_or s 0 0) 48)))
-leads_by_length [] = refl
-leads_by_length (b ∷ []) = refl
-leads_by_length (b ∷ d ∷ bs) =
-    let n = length (b ∷ d ∷ bs) in
-    rw (ne_eqb n 0 (λ e. omega arith), ne_eqb n 1 (λ e. omega arith))
+pub number_leads_not : (base : ℕ) (s : List ℕ) → false ≡ leads_well s → None ≡ number_in base s
+unfolding is_number
+number_leads_not base s h = rw (← h) refl
 
 -- a text of one byte leads well, and its number is the byte's digit after 0
-pub number_one : (s : List ℕ) → length s ≡ 1 → digit_after 10 0 (get_or s 0 0) ≡ number_in 10 s
+pub number_one : (s : List ℕ) → 1 ≤ length s → length s < 2 → digit_after 10 0 (get_or s 0 0) ≡ number_in 10 s
 unfolding is_number
-number_one [] one = absurd (omega arith)
-number_one (b ∷ []) one = rw (and-true (ltb (digit_of b) 10)) refl
-number_one (b ∷ d ∷ bs) one = absurd (omega arith)
+number_one [] some one = absurd (omega arith)
+number_one (b ∷ []) some one = rw (and-true (ltb (digit_of b) 10)) refl
+number_one (b ∷ d ∷ bs) some one = absurd (omega arith)
+
+-- what is no number in decimal is a value in base 16 or none
+pub value_by_base : (s : List ℕ)
+    → value_of s ≡ cond (is_number 10 s) (Some (number_after 10 0 s)) (base16_in s)
+unfolding is_value number_of value_of
+value_by_base s = by (is_number 10 s) (starts_with base_prefix s) refl refl
+  where
+    by : (t u : Bool) → is_number 10 s ≡ t → starts_with base_prefix s ≡ u
+        → cond (t || (u && is_number 16 (drop 2 s)))
+        (Some (cond u (number_after 16 0 (drop 2 s)) (number_after 10 0 s)))
+        None
+        ≡ cond t (Some (number_after 10 0 s)) (cond u (number_in 16 (drop 2 s)) None)
+    by true true e p = absurd (false≢true (sym (no_prefix s (is_in 10 s e).0) ∙ p))
+    by true false e p = refl
+    by false true e p = refl
+    by false false e p = refl
+
+-- a text that leads well is a value in decimal or none
+value_leads : (s : List ℕ) → leads_well s ≡ true → number_if 10 0 s ≡ value_of s
+unfolding is_number
+value_leads s h = rw (value_by_base s, h, no_prefix s h) refl
 
 -- a digit that stands alone is a value
-pub digit_value : (digit : ℕ) → digit < 10 → record { ok = true; number = digit } ≡ value_of ((48 + digit) ∷ [])
+pub digit_value : (digit : ℕ) → digit < 10 → Some digit ≡ value_of ((48 + digit) ∷ [])
 digit_value digit h =
     let b : digit_of (48 + digit) ≡ digit =
     decimal_byte (48 + digit) (omega arith) (omega arith) ∙ add-sub_cancel_left 48 digit in
     rw (b, lt-ltb digit 10 h, zero-add, lt-ltb digit (2 ^ 64) (omega arith)) at (value_leads ((48 + digit) ∷ []) refl)
 
 -- two digits are a value where the first is not 0
-pub two_digits_value : (n : ℕ) → 10 ≤ n → n < 100
-    → record { ok = true; number = n } ≡ value_of ((48 + n / 10) ∷ (48 + n % 10) ∷ [])
+pub two_digits_value : (n : ℕ) → 10 ≤ n → n < 100 → Some n ≡ value_of ((48 + n / 10) ∷ (48 + n % 10) ∷ [])
 two_digits_value n some small =
     let tens : digit_of (48 + n / 10) ≡ n / 10 =
     decimal_byte (48 + n / 10) (omega arith) (omega arith) ∙ add-sub_cancel_left 48 (n / 10) in

@@ -1,20 +1,25 @@
--- value_of is made by the test is_value, so its mark is the test and its number is the text's.
-use mathlib.Core.Path.{◌≡◌, refl, sym, ◌∙◌}
+-- value_of is made by the test is_value, so what it gives tells the test, and its number is the text's.
+use mathlib.Core.Path.{◌≡◌, refl}
 use mathlib.Core.Bool.{Bool, true, false, cond}
 use mathlib.Core.List.{List}
 use Prim.Native.Nat.{ℕ}
-use Rattle.text.specs.declared.Value.{Value}
-use Rattle.text.specs.Text.{is_value, number_of, no_value, value_of}
+use Rattle.std.specs.Prelude.{Some, None}
+use Rattle.text.specs.Text.{is_value, number_of, value_of}
 
-value_if : (t : Bool) (n : ℕ) → (cond t (record { ok = true; number = n }) no_value).ok ≡ t
-value_if true n = refl
-value_if false n = refl
-
-module _ (bs : List ℕ) (r : Value) (e : r ≡ value_of bs) where
-  pub value_test : (t : Bool) → r.ok ≡ t → is_value bs ≡ t
+module _ (bs : List ℕ) where
+  pub value_some : (n : ℕ) → value_of bs ≡ Some n → (is_value bs ≡ true) × (number_of bs ≡ n)
   unfolding value_of
-  value_test t h = sym (value_if (is_value bs) (number_of bs)) ∙ (rw e at h)
+  value_some n h = by (is_value bs) refl h
+    where
+      by : (t : Bool) → is_value bs ≡ t → cond t (Some (number_of bs)) None ≡ Some n
+          → (is_value bs ≡ true) × (number_of bs ≡ n)
+      by true e h = (e, cc)
+      by false e h = cc
 
-  pub value_number : r.ok ≡ true → r.number ≡ number_of bs
+  pub value_none : value_of bs ≡ None → is_value bs ≡ false
   unfolding value_of
-  value_number h = rw (e, value_test true h)
+  value_none h = by (is_value bs) refl h
+    where
+      by : (t : Bool) → is_value bs ≡ t → cond t (Some (number_of bs)) None ≡ None → is_value bs ≡ false
+      by true e h = cc
+      by false e h = e

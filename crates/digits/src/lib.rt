@@ -2,104 +2,95 @@
 // returns a definition of text's specs/Text.antt or of specs/. Document 01, "Command sheet"; document 02, A.6.
 #![tactic(auto)]
 
-ghost use Rattle.std.specs.Prelude.{◌≡◌};
-ghost use Rattle.text.specs.Text.{no_value, leads_well, value_of};
-ghost use Rattle.digits.specs.Digits.{digit_after, number_in};
+ghost use Rattle.std.specs.Prelude.{ℕ, ◌≡◌, ◌≤◌};
+ghost use Rattle.std.proofs.Common.{arith};
+ghost use Rattle.text.specs.Text.{leads_well, value_of};
+ghost use Rattle.digits.specs.Digits.{digit_in, digit_after, number_in};
 
 use base_16::read_base_16;
-use text::Value;
 
 pub mod base_16;
 
-fn no_value() -> Value
-    ensures { result ≡ no_value }
-{
-    Value {
-        ok: false,
-        number: 0,
-    }
+// A base in which values are written, with a test of its own for a digit.
+trait Base {
+    const BASE: u64;
+
+    ghost BASE: { ℕ };
+
+    // The digit that a byte is in the base, if it is one.
+    fn digit(b: u8) -> Option<u64>
+        ensures { result ≡ digit_in BASE b };
+
+    ghost some: { 1 ≤ BASE };
 }
 
-// A byte as a number.
-pub fn wide(b: u8) -> u64
-    ensures { result ≡ b }
-{
-    b as u64
-}
+struct Decimal;
 
-// The number v with one more digit in decimal, where the byte is one and the number stays below 2^64.
-fn next_digit(v: u64, b: u8) -> Value
-    ensures { result ≡ digit_after 10 v b }
-{
-    if b < 48 {
-        return no_value();
-    }
-    if 57 < b {
-        return no_value();
-    }
-    let digit = wide(b - 48);
-    // 2^64 - 1 is 18446744073709551615
-    if 1844674407370955161 < v {
-        return no_value();
-    }
-    if v == 1844674407370955161 {
-        if 5 < digit {
-            return no_value();
+impl Base for Decimal {
+    const BASE: u64 = 10;
+
+    ghost BASE = { 10 };
+
+    ghost some = { Prim.omega arith };
+
+    fn digit(b: u8) -> Option<u64> {
+        match b {
+            b'0'..=b'9' => Some(u64::from(b - b'0')),
+            _ => None,
         }
     }
-    Value {
-        ok: true,
-        number: v * 10 + digit,
-    }
+}
+
+// The number v with one more digit, where the byte is one and the number stays below 2^64.
+fn next_digit<B: Base>(v: u64, b: u8) -> Option<u64>
+    ensures { result ≡ digit_after B.BASE v b }
+{
+    let digit = B::digit(b)?;
+    v.checked_mul(B::BASE)?.checked_add(digit)
 }
 
 // Not empty, and a 0 in front only where it stands alone.
 fn leads_well(s: &[u8]) -> bool
     ensures { result ≡ leads_well s.now }
 {
-    if s.len() == 0 {
-        return false;
+    match s {
+        [] => false,
+        [_] => true,
+        [first, ..] => *first != b'0',
     }
-    if s.len() == 1 {
-        return true;
+}
+
+// The digits of a value.
+#[tactic(auto, using(crate::proofs::DigitByDigit::number_leads, crate::proofs::DigitByDigit::number_leads_not))]
+fn read_digits<B: Base>(s: &[u8]) -> Option<u64>
+    ensures { result ≡ number_in B.BASE s.now }
+{
+    if !leads_well(s) {
+        return None;
     }
-    s[0] != 48
+    let mut v = 0;
+    for &b in s {
+        v = next_digit::<B>(v, b)?;
+    }
+    Some(v)
 }
 
 // A value in decimal.
-pub fn read_decimal(s: &[u8]) -> Value
+#[tactic(auto, using(crate::proofs::DigitByDigit::number_one))]
+pub fn read_decimal(s: &[u8]) -> Option<u64>
     ensures { result ≡ number_in 10 s.now }
 {
     // Most values of a sheet have one digit.
-    if s.len() == 1 {
-        return next_digit(0, s[0]);
+    if let [b] = s {
+        return next_digit::<Decimal>(0, *b);
     }
-    if leads_well(s) {
-        let mut v: u64 = 0;
-        let mut i = 0;
-        while i < s.len() {
-            let next = next_digit(v, s[i]);
-            if !next.ok {
-                return no_value();
-            }
-            v = next.number;
-            i += 1;
-        }
-        return Value {
-            ok: true,
-            number: v,
-        };
-    }
-    no_value()
+    read_digits::<Decimal>(s)
 }
 
 // One value.
-pub fn read_value(s: &[u8]) -> Value
+#[tactic(auto, using(crate::proofs::DigitByDigit::value_by_base))]
+pub fn read_value(s: &[u8]) -> Option<u64>
     ensures { result ≡ value_of s.now }
 {
-    let decimal = read_decimal(s);
-    if decimal.ok {
-        return decimal;
-    }
-    read_base_16(s)
+    read_decimal(s).or_else(|| read_base_16(s))
 }

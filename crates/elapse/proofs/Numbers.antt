@@ -36,6 +36,10 @@ three_low x y z a b p few ha hb hp =
     let p' : p ≤ 2 ^ 40 = omega arith in
     omega (arith, mul-le-mul_left x a', mul-le-mul_left y b', mul-le-mul_left z p')
 
+-- and so are those of one phase
+pub phase_low : (x a : ℕ) → x ≤ 1000000 → a < 2 ^ 40 → x * a < 2 ^ 60
+phase_low x a few low = let a' : a ≤ 2 ^ 40 = omega arith in omega (arith, mul-le-mul_left x a')
+
 phase_all : (n c : ℕ) → min n c + (n - c) ≡ n
 phase_all n c = omega arith
 
@@ -47,45 +51,6 @@ amount_low s h n few =
     three_low _ _ _ _ _ _
     (rw (phase_all (n - c) s.waiting.cycles, phase_all n c) few)
     (adjustment_low s.adjustment f.running).1 (adjustment_low s.waiting f.waiting).1 f.period.high
-
--- what the cycles bring: PERIOD's amount where no adjustment runs, and else by the phase of the last
-module _ (s : Steering) (n : ℕ) where
-  pub in_none : steering_ok s ≡ true → s.adjustment.cycles ≡ 0 → amount_of s n ≡ n * s.period
-  unfolding amount_of
-  in_none h z =
-      let none = (steering_in s h).behind z in
-      let first : min n s.adjustment.cycles ≡ 0 = omega arith in
-      let second : min (n - s.adjustment.cycles) s.waiting.cycles ≡ 0 = omega arith in
-      let all : n - s.adjustment.cycles - s.waiting.cycles ≡ n = omega arith in
-      rw (first, second, all) (omega arith)
-
-  pub in_first : n ≤ s.adjustment.cycles → amount_of s n ≡ n * s.adjustment.amount
-  unfolding amount_of
-  in_first h =
-      let all : min n s.adjustment.cycles ≡ n = omega arith in
-      let none : n - s.adjustment.cycles ≡ 0 = omega arith in
-      let second : min 0 s.waiting.cycles ≡ 0 = omega arith in
-      let third : 0 - s.waiting.cycles ≡ 0 = omega arith in
-      rw (all, none, second, third) (omega arith)
-
-  pub in_second_lem : s.adjustment.cycles ≤ n → n - s.adjustment.cycles ≤ s.waiting.cycles
-      → amount_of s n ≡ s.adjustment.cycles * s.adjustment.amount + (n - s.adjustment.cycles) * s.waiting.amount
-  unfolding amount_of
-  in_second_lem h l =
-      let first : min n s.adjustment.cycles ≡ s.adjustment.cycles = omega arith in
-      let all : min (n - s.adjustment.cycles) s.waiting.cycles ≡ n - s.adjustment.cycles = omega arith in
-      let third : n - s.adjustment.cycles - s.waiting.cycles ≡ 0 = omega arith in
-      rw (first, all, third) (omega arith)
-
-  pub in_third : s.adjustment.cycles ≤ n → s.waiting.cycles ≤ n - s.adjustment.cycles
-      → amount_of s n
-      ≡ s.adjustment.cycles * s.adjustment.amount + s.waiting.cycles * s.waiting.amount
-      + (n - s.adjustment.cycles - s.waiting.cycles) * s.period
-  unfolding amount_of
-  in_third h l =
-      let first : min n s.adjustment.cycles ≡ s.adjustment.cycles = omega arith in
-      let second : min (n - s.adjustment.cycles) s.waiting.cycles ≡ s.waiting.cycles = omega arith in
-      rw (first, second) (omega arith)
 
 -- an adjustment's cycles times its amount
 pub product_fits : (j : Adjustment) → adjustment_ok j ≡ true → j.cycles * j.amount < 2 ^ 64

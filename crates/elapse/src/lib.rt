@@ -11,7 +11,6 @@ ghost use Rattle.model.specs.Elapse.{amount_of, spent_by, steering_by, ends_with
 ghost use Rattle.elapse.specs.Seconds.{second, in_second};
 
 use model::{Adjustment, Clock, STEP_UNIT, Steering};
-use tests::{both, fails, pick};
 
 // A nanosecond and a second, in 2^-32 ns.
 pub const NANOSECOND: u64 = 0x1_0000_0000;
@@ -20,24 +19,16 @@ pub const SECOND: u64 = 0x3B9A_CA00_0000_0000;
 
 pub const LAST_SECOND: u64 = 0xFFFF_FFFF_FFFF;
 
-// What n cycles bring, in three phases: the running adjustment's amount, that of the one that waits, then PERIOD. Where
-// none runs none waits, and they are PERIOD's at once.
+// What n cycles bring, in three phases: the running adjustment's amount, that of the one that waits, then PERIOD.
+#[tactic(auto, using(crate::proofs::Numbers::amount_low), unfolding(model::specs::Elapse::amount_of))]
 pub fn amount_of(s: Steering, n: u64) -> u64
     requires { (steering_ok s ≡ true) × (n ≤ 1000000) }
     ensures { result ≡ amount_of s n }
 {
-    if s.adjustment.cycles == 0 {
-        return n * s.period;
-    }
-    if n <= s.adjustment.cycles {
-        return n * s.adjustment.amount;
-    }
-    let first = s.adjustment.cycles * s.adjustment.amount;
-    let rest = n - s.adjustment.cycles;
-    if rest <= s.waiting.cycles {
-        return first + rest * s.waiting.amount;
-    }
-    first + s.waiting.cycles * s.waiting.amount + (rest - s.waiting.cycles) * s.period
+    let first = n.min(s.adjustment.cycles);
+    let rest = n - first;
+    let second = rest.min(s.waiting.cycles);
+    first * s.adjustment.amount + second * s.waiting.amount + (rest - second) * s.period
 }
 
 // What of the exact time lies in the second shown.
@@ -49,11 +40,12 @@ pub fn in_second(k: Clock) -> u64
 }
 
 // The clock so much after the start of a second, which may reach into the next one.
+#[tactic(auto, using(crate::proofs::Numbers::clock_parts))]
 pub fn clock_at(seconds: u64, after: u64) -> Clock
     requires { (seconds < 2 ^ 48) × (after < 2 * second) }
     ensures { result ≡ clock_at_exact (seconds * second + after) }
 {
-    let carry = pick(SECOND <= after, 1, 0);
+    let carry = u64::from(SECOND <= after);
     let rest = after - carry * SECOND;
     Clock {
         seconds: seconds + carry,
@@ -68,24 +60,26 @@ pub fn is_in_time(seconds: u64, after: u64) -> bool
     requires { (seconds < 2 ^ 48) × (after < 2 * second) }
     ensures { result ≡ ltb ((seconds * second + after) / 2 ^ 24) end_of_time }
 {
-    fails(both(seconds == LAST_SECOND, SECOND <= after))
+    seconds != LAST_SECOND || after < SECOND
 }
 
 // An adjustment after n cycles of its own.
+#[tactic(auto, unfolding(model::specs::Elapse::spent_by))]
 fn spend_by(j: Adjustment, n: u64) -> Adjustment
     ensures { result ≡ spent_by j n }
 {
     if j.cycles <= n {
-        return clock::no_adjustment();
+        return Adjustment::default();
     }
     Adjustment {
-        amount: j.amount,
         cycles: j.cycles - n,
+        ..j
     }
 }
 
 // The steering after n cycles: those that the running adjustment leaves over are the waiting one's. Where none runs it
 // stays.
+#[tactic(auto, unfolding(model::specs::Elapse::steering_by))]
 pub fn steer_by(s: Steering, n: u64) -> Steering
     requires { steering_ok s ≡ true }
     ensures { result ≡ steering_by s n }
@@ -95,22 +89,21 @@ pub fn steer_by(s: Steering, n: u64) -> Steering
     }
     if s.adjustment.cycles <= n {
         return Steering {
-            period: s.period,
             adjustment: spend_by(s.waiting, n - s.adjustment.cycles),
-            waiting: clock::no_adjustment(),
+            waiting: Adjustment::default(),
+            ..s
         };
     }
-    let waiting = s.waiting;
     Steering {
-        period: s.period,
         adjustment: spend_by(s.adjustment, n),
-        waiting: waiting,
+        ..s
     }
 }
 
 // The running adjustment's last cycle is among the n: TAC.
+#[tactic(auto, unfolding(model::specs::Elapse::ends_within))]
 pub fn ends_within(j: Adjustment, n: u64) -> bool
     ensures { result ≡ ends_within j n }
 {
-    both(1 <= j.cycles, j.cycles <= n)
+    1 <= j.cycles && j.cycles <= n
 }

@@ -1,15 +1,16 @@
 -- An input edge in a tick: what is asked of the FIFO and the clock, and what becomes of the edge. Document 01, "Stamps
 -- and generators".
-use Rattle.std.specs.Prelude.{◌≡◌, ℕ, ◌+◌, ◌*◌, ◌^◌, ◌<◌, ◌≤◌, ◌||◌, not, eqb, set}
+use Rattle.std.specs.Prelude.{◌≡◌, ℕ, ◌+◌, ◌*◌, ◌^◌, ◌<◌, ◌≤◌, Bool, true, false, cond, eqb, set}
 use Rattle.model.specs.declared.Clock.{Clock}
 use Rattle.model.specs.declared.Fifo.{Fifo}
 use Rattle.model.specs.declared.Timestamp.{Timestamp}
 use Rattle.model.specs.Units.{ns_per_second}
 use Rattle.model.specs.Clock.{shown, end_of_time}
 use Rattle.model.specs.Edges.{code_eighth}
-use Rattle.model.specs.Fifo.{nearest_ns, is_full, captures_first, overflows}
+use Rattle.model.specs.Fifo.{nearest_ns, is_empty, is_full}
 use Rattle.model.specs.Bounds.{ClockRange}
 use Rattle.fifo.specs.declared.Arrival.{Arrival}
+use Rattle.fifo.specs.declared.Arrival.TheVariants.{NoEdge, Stored, Overflow}
 
 -- the eighth of a code, one of eight
 pub record EighthOf (code r : ℕ) : Type 0 where
@@ -53,8 +54,20 @@ pushed f t = record { entries = set f.entries f.count t; count = f.count + 1 }
 
 -- what becomes of an input's code at a FIFO
 unfoldable pub arrival_of : Fifo → ℕ → Arrival
-arrival_of f code = record {
-  stored = not (eqb code 0 || is_full f);
-  first = captures_first f code;
-  overflow = overflows f code;
-}
+arrival_of f code = cond (eqb code 0) NoEdge (cond (is_full f) Overflow (Stored (is_empty f)))
+
+-- whether the edge is stored, the first in its FIFO, or dropped
+abbrev pub is_stored : Arrival → Bool
+is_stored NoEdge = false
+is_stored (Stored first) = true
+is_stored Overflow = false
+
+abbrev pub is_first : Arrival → Bool
+is_first NoEdge = false
+is_first (Stored first) = first
+is_first Overflow = false
+
+abbrev pub is_dropped : Arrival → Bool
+is_dropped NoEdge = false
+is_dropped (Stored first) = false
+is_dropped Overflow = true

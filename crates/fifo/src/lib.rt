@@ -7,44 +7,41 @@ ghost use Rattle.std.specs.Prelude.{◌≡◌, ◌+◌, ◌*◌, ◌<◌, ◌≤
 ghost use Rattle.model.specs.Units.{ns_per_second};
 ghost use Rattle.model.specs.Clock.{shown};
 ghost use Rattle.model.specs.Edges.{code_rising};
-ghost use Rattle.model.specs.Fifo.{empty_fifo, no_timestamp, entry, last_nanosecond, timestamp_at, timestamp_of};
+ghost use Rattle.model.specs.Fifo.{empty_fifo, entry, last_nanosecond, timestamp_at, timestamp_of};
 ghost use Rattle.model.specs.Fifo.{captured, popped};
 ghost use Rattle.fifo.specs.Capture.{EighthOf, OffsetOf, Stamping, NearestOf, Carrying, Capturing};
 ghost use Rattle.fifo.specs.Capture.{pushed, arrival_of};
 
 use model::{Clock, Fifo, NS_PER_SECOND, Timestamp};
-use tests::pick;
 
 // Half a nanosecond, in eighths of 1/256 ns.
 const HALF: u64 = 1024;
 
 const LAST_SECOND: u64 = 0xFFFF_FFFF_FFFF;
 
-// What becomes of an input's edge in a tick: stored, and perhaps the first in its FIFO (NE), or dropped (OF).
+// What becomes of an input's code in a tick: without an edge nothing, else the edge is stored, perhaps as the first in
+// its FIFO (NE), or dropped (OF).
 #[derive(Clone, Copy)]
-pub struct Arrival {
-    pub stored: bool,
-    pub first: bool,
-    pub overflow: bool,
+pub enum Arrival {
+    NoEdge,
+    Stored { first: bool },
+    Overflow,
 }
 
-fn no_timestamp() -> Timestamp
-    ensures { result ≡ no_timestamp }
-{
-    Timestamp {
-        seconds: 0,
-        nanoseconds: 0,
-        rising: 0,
+impl Arrival {
+    ghost use Rattle.fifo.specs.Capture.{is_stored};
+
+    pub fn is_stored(self) -> bool
+        ensures { result ≡ is_stored self }
+    {
+        matches!(self, Arrival::Stored { .. })
     }
 }
 
 pub fn empty_fifo() -> Fifo
     ensures { result ≡ empty_fifo }
 {
-    Fifo {
-        entries: [no_timestamp(); 8],
-        count: 0,
-    }
+    Fifo::default()
 }
 
 // A FIFO of this count holds nothing. The count alone is handed over, since a FIFO would be copied.
@@ -99,18 +96,23 @@ fn carried(seconds: u64, nanoseconds: u64, rising: u64) -> Timestamp
     requires { Carrying seconds nanoseconds }
     ensures { result ≡ timestamp_at (min last_nanosecond (seconds * ns_per_second + nanoseconds)) rising }
 {
-    let last = LAST_SECOND <= seconds;
     let carry = nanoseconds / NS_PER_SECOND;
-    let past = pick(last, carry, 0);
-    let kept = carry - past;
+    if LAST_SECOND <= seconds {
+        return Timestamp {
+            seconds,
+            nanoseconds: nanoseconds - carry,
+            rising,
+        };
+    }
     Timestamp {
-        seconds: seconds + kept,
-        nanoseconds: nanoseconds - past - kept * NS_PER_SECOND,
-        rising: rising,
+        seconds: seconds + carry,
+        nanoseconds: nanoseconds - carry * NS_PER_SECOND,
+        rising,
     }
 }
 
 // The timestamp of an edge.
+#[tactic(auto, unfolding(model::specs::Fifo::timestamp_of, model::specs::Fifo::timestamp_ns))]
 fn timestamp(k: Clock, step: u64, code: u64) -> Timestamp
     requires { Stamping k step code }
     ensures { result ≡ timestamp_of (shown k) step code }
@@ -125,72 +127,47 @@ fn push(mut f: Fifo, t: Timestamp) -> Fifo
 {
     let at = f.count as usize;
     f.entries[at] = t;
-    f.count = f.count + 1;
+    f.count += 1;
     f
 }
 
 // An input's code at a FIFO: no edge, one too many, or one that is stored.
+#[tactic(auto, unfolding(crate::specs::Capture::arrival_of))]
 pub fn arrive(f: Fifo, code: u64) -> Arrival
     ensures { result ≡ arrival_of f code }
 {
     if code == 0 {
-        return Arrival {
-            stored: false,
-            first: false,
-            overflow: false,
-        };
-    }
-    if 8 <= f.count {
-        return Arrival {
-            stored: false,
-            first: false,
-            overflow: true,
-        };
-    }
-    Arrival {
-        stored: true,
-        first: f.count == 0,
-        overflow: false,
+        Arrival::NoEdge
+    } else if 8 <= f.count {
+        Arrival::Overflow
+    } else {
+        Arrival::Stored {
+            first: f.count == 0,
+        }
     }
 }
 
 // The FIFO after an input's code in a tick of a step from the clock k.
+#[tactic(auto, unfolding(crate::specs::Capture::arrival_of, model::specs::Fifo::captured))]
 pub fn capture(f: Fifo, k: Clock, step: u64, code: u64) -> Fifo
     requires { Capturing k step code }
     ensures { result ≡ captured f (shown k) step code }
 {
-    if code == 0 {
-        return f;
+    if arrive(f, code).is_stored() {
+        push(f, timestamp(k, step, code))
+    } else {
+        f
     }
-    if f.count < 8 {
-        return push(f, timestamp(k, step, code));
-    }
-    f
 }
 
 // The oldest is taken out: each other moves one place down, and the last place is free.
-pub fn pop(f: Fifo) -> Fifo
+#[tactic(auto, unfolding(model::specs::Fifo::popped))]
+pub fn pop(mut f: Fifo) -> Fifo
     requires { 0 < f.count }
     ensures { result ≡ popped f }
 {
-    let second = f.entries[1];
-    let third = f.entries[2];
-    let fourth = f.entries[3];
-    let fifth = f.entries[4];
-    let sixth = f.entries[5];
-    let seventh = f.entries[6];
-    let eighth = f.entries[7];
-    Fifo {
-        entries: [
-            second,
-            third,
-            fourth,
-            fifth,
-            sixth,
-            seventh,
-            eighth,
-            no_timestamp(),
-        ],
-        count: f.count - 1,
-    }
+    f.entries.copy_within(1.., 0);
+    f.entries[7] = Timestamp::default();
+    f.count -= 1;
+    f
 }

@@ -3,3 +3,4 @@ pub mod Order
 pub mod Carry
 pub mod Ahead
 pub mod Tick
+pub mod Placed

@@ -1,20 +1,27 @@
 -- The order of a pending instant and a time shown. The places after the first that differs add up to less than one
 -- of it, so that place alone decides.
 use Prim.Native.Nat.{ℕ, ◌+◌, ◌*◌, ◌<◌, ◌≤◌, ◌^◌}
-use mathlib.Core.Path.{◌≡◌, ap}
+use mathlib.Core.Path.{◌≡◌, ap, sym, ◌∙◌}
 use mathlib.Core.Bool.{Bool, cond}
 use native.Mathlib.Omega.{arith}
 use native.Mathlib.Nat.{mul-le-mul_right}
-use native.Mathlib.Decide.{ℕ_discrete}
+use native.Mathlib.Decide.{ℕ_discrete, dec_lt}
 use lib.Dec.{ltb, eqb}
-use borrow.Author.Tests.{eq-eqb, ne_eqb}
+use borrow.Author.Tests.{eq-eqb, ne_eqb, lt-ltb, le-ltb}
 use Rattle.model.specs.declared.Clock.{Clock}
 use Rattle.model.specs.declared.Generator.{Generator}
 use Rattle.model.specs.Units.{ns_per_second}
 use Rattle.model.specs.Clock.{shown}
 use Rattle.model.specs.Generator.{is_before, pending_total}
-use Rattle.tests.proofs.Places.{same_test}
 use Rattle.generator.specs.Advance.{Comparable}
+
+-- two tests are the same where each side of one gives the same side of the other
+same_test : (a b m n : ℕ) → (a < b → m < n) → (b ≤ a → n ≤ m) → ltb a b ≡ ltb m n
+same_test a b m n below above = go (dec_lt a b)
+  where
+    go : Dec (a < b) → ltb a b ≡ ltb m n
+    go (yes l) = lt-ltb a b l ∙ sym (lt-ltb m n (below l))
+    go (no l) = let h : b ≤ a = omega arith in le-ltb a b h ∙ sym (le-ltb m n (above h))
 
 -- x and y decide where they differ, else the rest does
 abbrev first_before : ℕ → ℕ → Bool → Bool

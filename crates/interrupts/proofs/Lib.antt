@@ -1,4 +1,3 @@
 -- Laws that belong to no one function.
 pub mod Masks
-pub mod Turns
 pub mod Table

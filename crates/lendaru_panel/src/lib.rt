@@ -9,7 +9,7 @@ ghost use Rattle.model.specs.Execute.{execute as execute_spec};
 ghost use Rattle.change.specs.Changes.{Gives};
 ghost use Rattle.lendaru_panel.specs.Lent.{reply_of, Lent};
 
-use change::Change;
+use change::{Change, Refusal};
 use model::{Command, Engine, Words};
 
 const RECORD_VERSION: u64 = 2;
@@ -36,43 +36,45 @@ pub fn lendaru_power_on() -> Engine
     engine::power_on()
 }
 
-// What a command changes of any record: 4 where it is malformed.
-fn change_of(e: Engine, c: Command) -> Change
+// What a command changes of any record, or why it is refused.
+fn change_of(e: Engine, c: Command) -> Result<Change, Refusal>
     ensures { Gives e c (execute_spec e c) result }
 {
     if validity::is_valid(e) {
         engine::change_by(e, c)
     } else {
-        change::change_to(4, words::no_words(), e, false)
+        Err(Refusal::Record)
     }
 }
 
-// What a change tells the caller.
-pub fn reply_of(m: Change) -> Reply
-    ensures { result ≡ reply_of m }
+// What the caller is told of a change or a refusal. C has no Result: a number, 0 where it is accepted.
+pub fn reply_of(change: Result<Change, Refusal>) -> Reply
+    ensures { result ≡ reply_of change }
 {
-    let values = m.values;
-    Reply {
-        answer: m.answer,
-        values: values,
+    match change {
+        Ok(m) => Reply {
+            answer: 0,
+            values: m.values,
+        },
+        Err(refusal) => Reply {
+            answer: refusal.number(),
+            values: Words::default(),
+        },
     }
-}
-
-// Whether a change moves a FIFO.
-fn moves_of(m: Change) -> bool
-    ensures { result ≡ m.moves }
-{
-    m.moves
 }
 
 // One command on a lent record. A FIFO moves in few commands, so the record is stored without them but for those.
 pub fn lendaru_execute(e: &mut Engine, c: Command) -> Reply
     ensures { Lent e.old c e.new result }
 {
-    let m = change_of(*e, c);
-    if moves_of(m) {
-        *e = engine::move_fifos(*e, c);
+    match change_of(*e, c) {
+        Ok(m) => {
+            if m.moves {
+                *e = engine::move_fifos(*e, c);
+            }
+            *e = change::apply(*e, m);
+            reply_of(Ok(m))
+        }
+        Err(refusal) => reply_of(Err(refusal)),
     }
-    *e = change::apply(*e, m);
-    reply_of(m)
 }

@@ -9,7 +9,7 @@ ghost use Rattle.model.specs.Execute.{execute as execute_spec};
 ghost use Rattle.change.specs.Changes.{Gives};
 ghost use Rattle.lendaru_panel.specs.Lent.{Lent};
 
-use change::Change;
+use change::{Change, Refusal};
 use lendaru_panel::Reply;
 use model::{Command, Engine};
 
@@ -19,33 +19,30 @@ fn run_line(a: u64) -> Command
 {
     Command {
         op: 9,
-        a: a,
-        b: 0,
-        c: 0,
-        d: 0,
-        e: 0,
-        f: 0,
-        g: 0,
-        h: 0,
+        a,
+        ..Command::default()
     }
 }
 
-// What a run changes of any record: 4 where it is malformed.
-fn run_of(e: Engine, a: u64) -> Change
+// What a run changes of any record, or why it is refused.
+fn run_of(e: Engine, a: u64) -> Result<Change, Refusal>
     ensures { Gives e (run_line a) (execute_spec e (run_line a)) result }
 {
     if validity::is_valid(e) {
         run::run(e, run_line(a))
     } else {
-        change::change_to(4, words::no_words(), e, false)
+        Err(Refusal::Record)
     }
 }
 
 // A run of at most a ticks on a lent record, which it finds advanced. No FIFO moves, so there is one store.
+#[tactic(auto, using(crate::proofs::Applied::run_applied))]
 pub fn lendaru_run(e: &mut Engine, a: u64) -> Reply
     ensures { Lent e.old (run_line a) e.new result }
 {
-    let m = run_of(*e, a);
-    *e = change::apply(*e, m);
-    lendaru_panel::reply_of(m)
+    let change = run_of(*e, a);
+    if let Ok(m) = change {
+        *e = change::apply(*e, m);
+    }
+    lendaru_panel::reply_of(change)
 }

@@ -1,21 +1,21 @@
 -- A value line has at least 17 bytes and no line end among them. So where the text up to its first line end is one,
 -- the first 17 bytes hold none, and it is also the part up to the first line end behind them; and the other way round.
-use Prim.Native.Nat.{ℕ, suc, zero, ◌+◌, ◌-◌, ◌≤◌, ◌<◌}
+use Prim.Native.Nat.{ℕ, suc, zero, ◌+◌, ◌≤◌, ◌<◌}
 use mathlib.Core.Path.{◌≡◌, refl, sym, ap, ◌∙◌}
 use mathlib.Core.Bool.{Bool, true, false, cond}
 use mathlib.Core.List.{List, [], ◌∷◌, ◌++◌, append-nil}
 use native.Mathlib.Omega.{arith}
-use lib.ListN.{length, take, drop, length-drop, drop_of_length-le}
-use lib.Seq.{take_all, take-add, take-take, drop-drop}
+use lib.ListN.{length, take, drop, drop_of_length-le}
+use lib.Seq.{take_all, take-add, take-take}
 use lib.Dec.{eqb, ltb}
 use borrow.Author.Tests.{eqb-false, ne_eqb, lt-ltb, le-ltb}
+use Rattle.std.specs.Prelude.{Option, Some, None}
 use Rattle.model.specs.declared.Command.{Command}
-use Rattle.text.specs.declared.Line.{Line}
 use Rattle.text.specs.Text.{line_end, Lacks, parts, first_part}
-use Rattle.text.specs.Sheet.{is_line, command_in, no_line, line_of}
+use Rattle.text.specs.Sheet.{is_line, command_in, line_of}
 use Rattle.text.proofs.Laws.Lines.{line_is_long}
 use Rattle.lines.specs.Reading.{line_part}
-use Rattle.text.proofs.Laws.FirstPart.{first_into, first_take, rest_is}
+use Rattle.text.proofs.Laws.FirstPart.{first_into, first_take}
 
 -- the first bytes of a text lack what the text lacks
 lacks_take : (sep n : ℕ) (bs : List ℕ) → Lacks sep bs → Lacks sep (take n bs)
@@ -68,58 +68,60 @@ module _ (t : List ℕ) where
       go false true h i = ap line_of (line_is_part i)
       go false false h i = rw (h, i)
 
-line_if : (t : Bool) (command : Command) → (cond t (record { ok = true; command = command }) no_line).ok ≡ t
-line_if true command = refl
-line_if false command = refl
+-- what a line reads as tells whether it is one
+module _ (l : List ℕ) where
+  pub line_some : {c : Command} → line_of l ≡ Some c → is_line l ≡ true
+  unfolding line_of
+  line_some {c} h = by (is_line l) refl h
+    where
+      by : (t : Bool) → is_line l ≡ t → cond t (Some (command_in l)) None ≡ Some c → is_line l ≡ true
+      by true e h = e
+      by false e h = cc
 
-pub line_test : (l : List ℕ) (r : Line) → r ≡ line_of l → (t : Bool) → r.ok ≡ t → is_line l ≡ t
-unfolding line_of
-line_test l r e t h = sym (line_if (is_line l) (command_in l)) ∙ (rw e at h)
+  pub line_none : line_of l ≡ None → is_line l ≡ false
+  unfolding line_of
+  line_none h = by (is_line l) refl h
+    where
+      by : (t : Bool) → is_line l ≡ t → cond t (Some (command_in l)) None ≡ None → is_line l ≡ false
+      by true e h = cc
+      by false e h = e
 
-cond_same : (t : Bool) (x : Line) → cond t x x ≡ x
+cond_same : (t : Bool) (x : Option Command) → cond t x x ≡ x
 cond_same true x = refl
 cond_same false x = refl
 
 -- where a text up to its first line end is no line, so is the part; where it is, it ends where the part does
-module _ (s : List ℕ) (at : ℕ) where
+module _ (s : List ℕ) where
   abbrev line : List ℕ
-  line = first_part line_end (drop at s)
+  line = first_part line_end s
 
   abbrev part : List ℕ
-  part = line_part (drop at s)
+  part = line_part s
 
-  pub part_cut : length s ≤ at + length part → no_line ≡ cond (ltb (at + length line) (length s)) (line_of line) no_line
+  pub part_cut : length s ≤ length part → None ≡ cond (ltb (length line) (length s)) (line_of line) None
   unfolding line_of
   part_cut cut = go (is_line line) refl
     where
-      go : (q : Bool) → is_line line ≡ q → no_line ≡ cond (ltb (at + length line) (length s)) (line_of line) no_line
-      go true h = rw (le-ltb (at + length line) (length s) (omega (arith, ap length (line_is_part (drop at s) h))))
+      go : (q : Bool) → is_line line ≡ q → None ≡ cond (ltb (length line) (length s)) (line_of line) None
+      go true h = rw (le-ltb (length line) (length s) (omega (arith, ap length (line_is_part s h))))
       go false h = rw (h, cond_same)
 
-  pub part_whole : at + length part < length s
-      → line_of part ≡ cond (ltb (at + length line) (length s)) (line_of line) no_line
+  pub part_whole : length part < length s → line_of part ≡ cond (ltb (length line) (length s)) (line_of line) None
   unfolding line_of
-  part_whole more = part_line (drop at s) ∙ go (is_line line) refl
+  part_whole more = part_line s ∙ go (is_line line) refl
     where
-      go : (q : Bool) → is_line line ≡ q
-          → line_of line ≡ cond (ltb (at + length line) (length s)) (line_of line) no_line
-      go true h = rw (lt-ltb (at + length line) (length s) (omega (arith, ap length (line_is_part (drop at s) h))))
+      go : (q : Bool) → is_line line ≡ q → line_of line ≡ cond (ltb (length line) (length s)) (line_of line) None
+      go true h = rw (lt-ltb (length line) (length s) (omega (arith, ap length (line_is_part s h))))
       go false h = rw (h, cond_same)
 
-  pub part_end : is_line line ≡ true → at + length part ≡ at + length line
-  part_end h = ap (λ l. at + length l) (line_is_part (drop at s) h)
+  pub part_end : is_line line ≡ true → length part ≡ length line
+  part_end h = ap length (line_is_part s h)
 
   -- how the part is cut out of the text: fewer than 17 bytes as they stand, else with the run behind them
-  pub part_rest : length s - at < 17 → take (length s - at) (drop at s) ≡ part
+  pub part_rest : length s < 17 → s ≡ part
   part_rest few =
-      let t = drop at s in
-      let short : length t ≤ 17 = omega (arith, length-drop at s) in
-      rest_is s at ∙ rw (take_all 17 t short, drop_of_length-le t short, append-nil)
+      let short : length s ≤ 17 = omega arith in
+      rw (take_all 17 s short, drop_of_length-le s short, append-nil)
 
-  pub part_run : (n : ℕ) → n ≡ length (first_part line_end (drop (at + 17) s))
-      → take (at + 17 + n - at) (drop at s) ≡ part
-  part_run n is =
-      let t = drop at s in
-      let size : at + 17 + n - at ≡ 17 + n = omega arith in
-      rw (size, take-add 17 n t, drop-drop 17 at s, is)
-      (ap (◌++◌ (take 17 t)) (sym (first_take line_end (drop (at + 17) s))))
+  pub part_run : (n : ℕ) → n ≡ length (first_part line_end (drop 17 s)) → take (17 + n) s ≡ part
+  part_run n is = rw (take-add 17 n s, is) (ap (◌++◌ (take 17 s)) (sym (first_take line_end (drop 17 s))))

@@ -24,7 +24,7 @@ pub const ENABLED_MASK: u64 = 0x3F7F;
 
 // The time shown (48-bit seconds, nanoseconds, 1/256 ns) and the hidden remainder in 2^-32 ns.
 #[repr(C)]
-#[derive(Clone, Copy)]
+#[derive(Clone, Copy, Default)]
 pub struct Clock {
     pub seconds: u64,
     pub nanoseconds: u64,
@@ -34,7 +34,7 @@ pub struct Clock {
 
 // PER_ADJ in 2^-32 ns and the cycles that are left of it; none is all zeros.
 #[repr(C)]
-#[derive(Clone, Copy)]
+#[derive(Clone, Copy, Default)]
 pub struct Adjustment {
     pub amount: u64,
     pub cycles: u64,
@@ -51,7 +51,7 @@ pub struct Steering {
 
 // The timestamp of an input edge; rising is 1 or 0.
 #[repr(C)]
-#[derive(Clone, Copy)]
+#[derive(Clone, Copy, Default)]
 pub struct Timestamp {
     pub seconds: u64,
     pub nanoseconds: u64,
@@ -60,7 +60,7 @@ pub struct Timestamp {
 
 // The timestamp FIFO of one timestamper: oldest first, unused places zero.
 #[repr(C)]
-#[derive(Clone, Copy)]
+#[derive(Clone, Copy, Default)]
 pub struct Fifo {
     pub entries: [Timestamp; 8],
     pub count: u64,
@@ -68,7 +68,7 @@ pub struct Fifo {
 
 // An instant: seconds, nanoseconds, and remainder / D of a nanosecond, D being its generator's denominator.
 #[repr(C)]
-#[derive(Clone, Copy)]
+#[derive(Clone, Copy, PartialEq, Eq, Default)]
 pub struct Instant {
     pub seconds: u64,
     pub nanoseconds: u64,
@@ -78,7 +78,7 @@ pub struct Instant {
 // An event generator: the pending instant, the interval W + N/D ns, the edges left, the direction of the next edge
 // (0 rising, 1 falling) and the mark; idle is all zeros.
 #[repr(C)]
-#[derive(Clone, Copy)]
+#[derive(Clone, Copy, PartialEq, Eq, Default)]
 pub struct Generator {
     pub pending: Instant,
     pub whole: u64,
@@ -91,7 +91,7 @@ pub struct Generator {
 
 // PTP_IR and PTP_IE: the latched bits and the interrupt mask.
 #[repr(C)]
-#[derive(Clone, Copy)]
+#[derive(Clone, Copy, Default)]
 pub struct Interrupts {
     pub latched: u64,
     pub enabled: u64,
@@ -99,7 +99,7 @@ pub struct Interrupts {
 
 // Five numbers: the words TEIO1 to TEIO5, and the values v1 to v5 of an outcome.
 #[repr(C)]
-#[derive(Clone, Copy)]
+#[derive(Clone, Copy, PartialEq, Eq, Default)]
 pub struct Words {
     pub w1: u64,
     pub w2: u64,
@@ -125,7 +125,7 @@ pub struct Engine {
 
 // One line of a command sheet.
 #[repr(C)]
-#[derive(Clone, Copy)]
+#[derive(Clone, Copy, Default)]
 pub struct Command {
     pub op: u64,
     pub a: u64,

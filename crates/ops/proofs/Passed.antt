@@ -20,6 +20,7 @@ use Rattle.model.proofs.Laws.InRange.{valid_parts, words_in}
 use Rattle.model.proofs.Laws.Parts.{fifo_at_ok}
 use Rattle.model.proofs.Laws.Accepting.{Accepted, accepted_facts, by_write}
 use Rattle.model.proofs.Laws.Valid.{reads_fifo_lem, fifo_filled}
+use Rattle.std.specs.Prelude.{Ok}
 use Rattle.change.specs.declared.Change.{Change}
 use Rattle.change.specs.Changes.{change_to, applied, oldest_taken, outcome_of, moves_fifo, Gives}
 use Rattle.change.proofs.Given.{others_still}
@@ -46,14 +47,14 @@ module _ (e : Engine) (c : Command) (k : Commands e c) where
 
   -- the write leaves the FIFOs alone, so its record is the change to it
   pub written_gives : (now : Engine) → now ≡ written e c.a → eqb c.b 8 ≡ true
-      → Gives e c (commanded e c.a c.b) (change_to 0 no_words now false)
+      → Gives e c (commanded e c.a c.b) (Ok (change_to no_words now false))
   unfolding commanded
   written_gives now is b8 =
       let outcome = by_write Same e c.a (search) in
       rw is (record { is = rw b8 outcome; moving = sym (others_still e c no_tick (reads_none b8)) })
     where
       Same : Engine → Type 0
-      Same x = outcome_of e c (change_to 0 no_words x false) ≡ accepted no_words x
+      Same x = outcome_of e c (Ok (change_to no_words x false)) ≡ accepted no_words x
 
   module _ (n8 : eqb c.b 8 ≡ false) where
     reads : eqb c.b 0 ≡ false → reads_fifo c ≡ true
@@ -70,9 +71,9 @@ module _ (e : Engine) (c : Command) (k : Commands e c) where
     words_now = words_read e (written e c.a).clock c.b
 
     abbrev change_now : Change
-    change_now = change_to 0 words_now (with_words (written e c.a) words_now) (not (eqb c.b 0))
+    change_now = change_to words_now (with_words (written e c.a) words_now) (not (eqb c.b 0))
 
-    by_selector : (z : Bool) → eqb c.b 0 ≡ z → outcome_of e c change_now ≡ commanded e c.a c.b
+    by_selector : (z : Bool) → eqb c.b 0 ≡ z → outcome_of e c (Ok change_now) ≡ commanded e c.a c.b
     unfolding commanded read_words read_engine
     by_selector true y = rw (n8, y) (by_write Same e c.a (search))
       where
@@ -81,7 +82,7 @@ module _ (e : Engine) (c : Command) (k : Commands e c) where
 
         Same : Engine → Type 0
         Same x =
-            outcome_of e c (change_to 0 (shown_words x) (with_words x (shown_words x)) false)
+            outcome_of e c (Ok (change_to (shown_words x) (with_words x (shown_words x)) false))
             ≡ accepted (shown_words x) (with_words x (shown_words x))
     by_selector false y =
         rw (n8, y, no_tick) (by_write Same e c.a (search))
@@ -92,7 +93,7 @@ module _ (e : Engine) (c : Command) (k : Commands e c) where
         Same : Engine → Type 0
         Same x =
             accepted (oldest_words e)
-            (applied (oldest_taken e c.b) (change_to 0 (oldest_words e) (with_words x (oldest_words e)) true))
+            (applied (oldest_taken e c.b) (change_to (oldest_words e) (with_words x (oldest_words e)) true))
             ≡ accepted (oldest_words x) (with_words (oldest_taken x c.b) (oldest_words x))
 
     -- a FIFO moves where its selector is not 0
@@ -103,7 +104,7 @@ module _ (e : Engine) (c : Command) (k : Commands e c) where
         sym (others_still e c no_tick (rw (lt-leb 1 c.b (omega arith), and-false (is_op 2 c)) refl))
     moves_by false y = rw (eq-eqb _ _ k.passed, no_tick, reads y) refl
 
-    pub read_gives : Gives e c (commanded e c.a c.b) change_now
+    pub read_gives : Gives e c (commanded e c.a c.b) (Ok change_now)
     read_gives = record {
       is = by_selector (eqb c.b 0) refl;
       moving = moves_by (eqb c.b 0) refl;

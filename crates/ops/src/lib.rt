@@ -3,7 +3,7 @@
 // sheet" and "The five words"; the adjustment that waits, document 02, A.4.
 #![tactic(auto)]
 
-ghost use Rattle.std.specs.Prelude.{◌≡◌, false, ◌<◌, ◌^◌};
+ghost use Rattle.std.specs.Prelude.{◌≡◌, false, ◌<◌, ◌^◌, Ok};
 ghost use Rattle.model.specs.Words.{no_words};
 ghost use Rattle.model.specs.Fifo.{is_empty, entry};
 ghost use Rattle.model.specs.Generator.{idle_generator};
@@ -17,44 +17,35 @@ ghost use Rattle.ops.specs.Reading.{Commands, Readable, words_read};
 
 use change::{Change, change_to};
 use model::{Clock, Command, Engine, Generator, Instant, Interrupts, Steering, Timestamp, Words};
-use words::no_words;
-
-// An accepted command with these values and the record after it, whose FIFOs stay.
-fn accepted(values: Words, e: Engine) -> Change
-    ensures { result ≡ change_to 0 values e false }
-{
-    change_to(0, values, e, false)
-}
 
 fn just_first(v: u64) -> Words
     ensures { result ≡ just_first v }
 {
     Words {
         w1: v,
-        w2: 0,
-        w3: 0,
-        w4: 0,
-        w5: 0,
+        ..Words::default()
     }
+}
+
+// A command that returns no values, and the record after it, whose FIFOs stay.
+fn silent(e: Engine) -> Change
+    ensures { result ≡ change_to no_words e false }
+{
+    change_to(Words::default(), e, false)
 }
 
 // Op 1, load words.
 pub fn load_words(e: Engine, c: Command) -> Change
-    ensures { result ≡ change_to 0 no_words (with_words e (loaded_words c)) false }
+    ensures { result ≡ change_to no_words (with_words e (loaded_words c)) false }
 {
-    accepted(
-        no_words(),
-        record::with_words(
-            e,
-            Words {
-                w1: c.a,
-                w2: c.b,
-                w3: c.c,
-                w4: c.d,
-                w5: c.e,
-            },
-        ),
-    )
+    let words = Words {
+        w1: c.a,
+        w2: c.b,
+        w3: c.c,
+        w4: c.d,
+        w5: c.e,
+    };
+    silent(Engine { words, ..e })
 }
 
 // Op 2, write 0: TIME clears fraction and remainder and stops both generators.
@@ -62,9 +53,12 @@ fn write_time(e: Engine) -> Engine
     requires { WordsRange e.words }
     ensures { result ≡ time_written e }
 {
-    let k = clock::set_clock(words::seconds_in(e.words), words::nanoseconds_in(e.words));
-    let idle = generator::idle_generator();
-    record::with_generators(record::with_clock(e, k), idle, idle)
+    Engine {
+        clock: clock::set_clock(words::seconds_in(e.words), words::nanoseconds_in(e.words)),
+        generator1: Generator::default(),
+        generator2: Generator::default(),
+        ..e
+    }
 }
 
 // Op 2, write 1: PERIOD. The remainder stays.
@@ -72,16 +66,11 @@ fn write_period(e: Engine) -> Engine
     requires { WordsRange e.words }
     ensures { result ≡ period_written e }
 {
-    let adjustment = e.steering.adjustment;
-    let waiting = e.steering.waiting;
-    record::with_steering(
-        e,
-        Steering {
-            period: words::amount_in(e.words),
-            adjustment: adjustment,
-            waiting: waiting,
-        },
-    )
+    let steering = Steering {
+        period: words::amount_in(e.words),
+        ..e.steering
+    };
+    Engine { steering, ..e }
 }
 
 // Op 2, write 2: the adjustment.
@@ -89,11 +78,12 @@ fn write_adjustment(e: Engine) -> Engine
     requires { WordsRange e.words }
     ensures { result ≡ adjust_written e }
 {
-    let j = words::adjustment_in(e.words);
-    record::with_steering(e, clock::adjust(e.steering, j))
+    let steering = clock::adjust(e.steering, words::adjustment_in(e.words));
+    Engine { steering, ..e }
 }
 
 // Op 2, the write by its selector; 16 writes nothing.
+#[tactic(auto, unfolding(model::specs::OtherOps::written))]
 fn write(e: Engine, selector: u64) -> Engine
     requires { WordsRange e.words }
     ensures { result ≡ written e selector }
@@ -110,13 +100,11 @@ fn write(e: Engine, selector: u64) -> Engine
 fn oldest_at(e: Engine, n: u64) -> Timestamp
     ensures { result ≡ entry (fifo e n) 0 }
 {
-    if n == 1 {
-        return fifo::oldest(e.fifo1);
+    match n {
+        1 => fifo::oldest(e.fifo1),
+        2 => fifo::oldest(e.fifo2),
+        _ => fifo::oldest(e.fifo3),
     }
-    if n == 2 {
-        return fifo::oldest(e.fifo2);
-    }
-    fifo::oldest(e.fifo3)
 }
 
 // Op 2, what a read returns: the time shown after the write, or the oldest timestamp.
@@ -134,39 +122,32 @@ fn read_words(e: Engine, now: Clock, selector: u64) -> Words
 // Op 2: the write goes before the read. The words that are read are returned and kept, and a FIFO that is read moves.
 pub fn command(e: Engine, c: Command) -> Change
     requires { Commands e c }
-    ensures { Gives e c (commanded e c.a c.b) result }
+    ensures { Gives e c (commanded e c.a c.b) (Ok result) }
 {
     let now = write(e, c.a);
     if c.b == 8 {
-        return accepted(no_words(), now);
+        return silent(now);
     }
-    let w = read_words(e, now.clock, c.b);
-    change_to(0, w, record::with_words(now, w), c.b != 0)
+    let words = read_words(e, now.clock, c.b);
+    change_to(words, Engine { words, ..now }, c.b != 0)
 }
 
-// Op 2, the record without the oldest timestamp of a FIFO.
+// Op 2, the record without the oldest timestamp of a FIFO. In place, since `..e` copies a lent record.
 pub fn take_timestamp(mut e: Engine, n: u64) -> Engine
     requires { is_empty (fifo e n) ≡ false }
     ensures { result ≡ oldest_taken e n }
 {
-    if n == 1 {
-        let popped = fifo::pop(e.fifo1);
-        e.fifo1 = popped;
-        return e;
+    match n {
+        1 => e.fifo1 = fifo::pop(e.fifo1),
+        2 => e.fifo2 = fifo::pop(e.fifo2),
+        _ => e.fifo3 = fifo::pop(e.fifo3),
     }
-    if n == 2 {
-        let popped = fifo::pop(e.fifo2);
-        e.fifo2 = popped;
-        return e;
-    }
-    let popped = fifo::pop(e.fifo3);
-    e.fifo3 = popped;
     e
 }
 
 // Op 3, arm.
 pub fn arm(e: Engine, c: Command) -> Change
-    ensures { result ≡ change_to 0 no_words (with_generator e c.a (armed_by c)) false }
+    ensures { result ≡ change_to no_words (with_generator e c.a (armed_by c)) false }
 {
     let g = Generator {
         pending: Instant {
@@ -181,58 +162,57 @@ pub fn arm(e: Engine, c: Command) -> Change
         direction: 0,
         mark: c.h,
     };
-    accepted(no_words(), record::with_generator(e, c.a, g))
+    silent(record::with_generator(e, c.a, g))
 }
 
 // Op 4, stop.
 pub fn stop(e: Engine, c: Command) -> Change
-    ensures { result ≡ change_to 0 no_words (with_generator e c.a idle_generator) false }
+    ensures { result ≡ change_to no_words (with_generator e c.a idle_generator) false }
 {
-    accepted(
-        no_words(),
-        record::with_generator(e, c.a, generator::idle_generator()),
-    )
+    silent(record::with_generator(e, c.a, Generator::default()))
 }
 
 // Op 5, read interrupts: the bits are returned, then all cleared.
+#[tactic(auto, unfolding(model::specs::OtherOps::interrupts_read))]
 pub fn read_interrupts(e: Engine) -> Change
     requires { e.interrupts.latched < 2 ^ 16 }
-    ensures { result ≡ change_to 0 (interrupts_read e).values (interrupts_read e).engine false }
+    ensures { result ≡ change_to (interrupts_read e).values (interrupts_read e).engine false }
 {
     let word = interrupts::interrupt_word(e.interrupts.latched, e.interrupts.enabled);
-    let cleared = Interrupts {
+    let interrupts = Interrupts {
         latched: 0,
-        enabled: e.interrupts.enabled,
+        ..e.interrupts
     };
-    accepted(just_first(word), record::with_interrupts(e, cleared))
+    change_to(just_first(word), Engine { interrupts, ..e }, false)
 }
 
 // Op 6, set the enable mask.
 pub fn set_mask(e: Engine, c: Command) -> Change
-    ensures { result ≡ change_to 0 no_words (mask_set e c.a) false }
+    ensures { result ≡ change_to no_words (mask_set e c.a) false }
 {
-    let masked = Interrupts {
-        latched: e.interrupts.latched,
+    let interrupts = Interrupts {
         enabled: c.a,
+        ..e.interrupts
     };
-    accepted(no_words(), record::with_interrupts(e, masked))
+    silent(Engine { interrupts, ..e })
 }
 
 // Op 7, read status.
+#[tactic(auto, unfolding(model::specs::OtherOps::status_of))]
 pub fn read_status(e: Engine) -> Change
-    ensures { result ≡ change_to 0 (just_first (status_of e)) e false }
+    ensures { result ≡ change_to (just_first (status_of e)) e false }
 {
     let word = interrupts::status_word(
         fifo::is_empty(e.fifo1.count),
         fifo::is_empty(e.fifo2.count),
         fifo::is_empty(e.fifo3.count),
     );
-    accepted(just_first(word), e)
+    change_to(just_first(word), e, false)
 }
 
 // Op 8, show the words.
 pub fn show_words(e: Engine) -> Change
-    ensures { result ≡ change_to 0 e.words e false }
+    ensures { result ≡ change_to e.words e false }
 {
-    accepted(e.words, e)
+    change_to(e.words, e, false)
 }

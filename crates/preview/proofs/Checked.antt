@@ -1,15 +1,15 @@
 -- A preview on a valid record has the checks of its fields, of the adjust write and of its ticks; no other check of the
 -- table speaks of op 10. It changes nothing, accepted or refused.
 use Prim.Native.Nat.{ℕ, ◌≤◌}
-use mathlib.Core.Path.{◌≡◌, refl, sym}
+use mathlib.Core.Path.{◌≡◌, refl, sym, ◌∙◌}
 use mathlib.Core.Bool.{Bool, true, false, ◌&&◌, cond}
 use native.Mathlib.Omega.{arith}
 use lib.Dec.{eqb, leb}
-use borrow.Author.Tests.{leb-true, ne_eqb}
+use borrow.Author.Tests.{leb-true}
 use Rattle.model.specs.declared.Engine.{Engine}
 use Rattle.model.specs.declared.Command.{Command}
 use Rattle.model.specs.Tests.{every}
-use Rattle.model.specs.Words.{no_words, whole_in, count_in}
+use Rattle.model.specs.Words.{whole_in, count_in}
 use Rattle.model.specs.Tick.{in_time_for}
 use Rattle.model.specs.OtherOps.{adjust_written, read_words}
 use Rattle.model.specs.Preview.{rehearsed, previewed}
@@ -18,10 +18,19 @@ use Rattle.model.specs.Ranges.{valid}
 use Rattle.model.specs.Fields.{preview_fields, fields_ok, field_tests}
 use Rattle.model.specs.Checks.{answer_of, checks}
 use Rattle.model.specs.Execute.{execute}
+use Rattle.model.specs.Bounds.{WordsRange}
+use Rattle.model.proofs.Laws.InRange.{valid_parts, words_in}
 use Rattle.model.proofs.Laws.Testing.{facts}
+use Rattle.std.specs.Prelude.{Ok, Err}
+use Rattle.change.specs.declared.refusal.Refusal.{Refusal}
+use Rattle.change.specs.declared.refusal.Refusal.TheVariants.{TimeOver}
+use Rattle.change.specs.Refusals.{number_of}
 use Rattle.change.specs.Changes.{change_to, Gives}
-use Rattle.change.proofs.Given.{refused_gives, others_still}
+use Rattle.change.proofs.Given.{number_some, refusal_gives, others_still}
 use Rattle.preview.specs.Previews.{refusal_before}
+
+pub words_within : (e : Engine) → valid e ≡ true → WordsRange e.words
+words_within e v = words_in e.words (valid_parts e v).words
 
 -- what a preview with no refusal before its ticks has passed
 pub record Passed (e : Engine) (c : Command) : Type 0 where
@@ -68,22 +77,16 @@ module _ (e : Engine) (c : Command) (v : valid e ≡ true) (o : c.op ≡ 10) whe
       (first_of_tests (every (preview_fields c)) (leb 1 (whole_in e.words)) (leb 1 (count_in e.words))
       (eqb e.steering.waiting.cycles 0) _)
 
-  pub refused_before : (refusal_before e c ≡ 0 → ⊥)
-      → Gives e c (execute e c) (change_to (refusal_before e c) no_words e false)
-  unfolding execute
-  refused_before n =
-      let some = ne_eqb (refusal_before e c) 0 n in
-      refused_gives e c _ _ (rw (preview_answer, some) some) (rw (preview_answer, some, some) refl)
+  pub refused_before : (r : Refusal) → number_of r ≡ refusal_before e c → Gives e c (execute e c) (Err r)
+  refused_before r is =
+      refusal_gives e c r (is ∙ sym (preview_answer ∙ rw (← is, number_some r, is) refl))
 
   module _ (p : refusal_before e c ≡ 0) where
-    pub late_refused : in_time_for c.a (adjust_written e) ≡ false
-        → Gives e c (execute e c) (change_to 15 no_words e false)
-    unfolding execute
-    late_refused t =
-        refused_gives e c 15 _ (rw (preview_answer, p, t) refl) (rw (preview_answer, p, t) refl)
+    pub late_refused : in_time_for c.a (adjust_written e) ≡ false → Gives e c (execute e c) (Err TimeOver)
+    late_refused t = refusal_gives e c TimeOver (sym (preview_answer ∙ rw (p, t) refl))
 
     pub shown_gives : in_time_for c.a (adjust_written e) ≡ true
-        → Gives e c (execute e c) (change_to 0 (read_words (rehearsed e c.a) 0) e false)
+        → Gives e c (execute e c) (Ok (change_to (read_words (rehearsed e c.a) 0) e false))
     unfolding execute performed previewed
     shown_gives t = record {
       is = rw (preview_answer, p, t, o) refl;

@@ -9,6 +9,8 @@ use native.Mathlib.Nat.{div-lt_iff_lt-mul, le-div_iff_mul-le}
 use native.Mathlib.Decide.{dec_le}
 use native.Mathlib.Omega.{arith}
 use lib.Dec.{eqb, leb, ltb}
+use Rattle.std.specs.Prelude.{Some, None}
+use Rattle.std.specs.declared.option.Option.{Option}
 use borrow.Author.Tests.{le-leb, lt-leb, lt-ltb, le-ltb, leb-true, leb-false, eqb-true, eqb-false}
 use Rattle.model.specs.declared.Generator.{Generator}
 use Rattle.model.specs.declared.Engine.{Engine}
@@ -78,22 +80,22 @@ module _ (e : Engine) (v : Valid e) (g : Generator) (ok : generator_ok g (shown 
   unfolding is_due_by
   idle_never r k = rw r refl
 
-  abbrev pub tick : ℕ → ℕ
+  abbrev pub tick : ℕ → Option ℕ
   tick m = edge_tick g e.clock e.steering (amount_of e.steering m)
 
   -- what the tick is, by its two tests
   tick_by : (m : ℕ) (r t : Bool) → is_running g ≡ r → leb need (amount_of e.steering m) ≡ t
-      → tick m ≡ cond (r && t) (cycles_to e.steering need) 0
+      → tick m ≡ cond (r && t) (Some (cycles_to e.steering need)) None
   unfolding edge_tick
   tick_by m r t h₁ h₂ = rw (h₁, h₂) refl
 
   -- no tick: it is not due by the end of the stretch
-  pub edge_none : (m : ℕ) → tick m ≡ 0 → is_due_by g (shown_after e m) ≡ false
+  pub edge_none : (m : ℕ) → tick m ≡ None → is_due_by g (shown_after e m) ≡ false
   edge_none m z = by (is_running g) refl (leb need (amount_of e.steering m)) refl
     where
       by : (r : Bool) → is_running g ≡ r → (t : Bool) → leb need (amount_of e.steering m) ≡ t
           → is_due_by g (shown_after e m) ≡ false
-      by true r true t = absurd (omega (arith, cycles_some e.steering need, tick_by m true true r t, z))
+      by true r true t = let some = tick_by m true true r t in absurd (cc)
       by true r false t = due_amount r m ∙ t
       by false r t q = idle_never r m
 
@@ -103,19 +105,21 @@ module _ (e : Engine) (v : Valid e) (g : Generator) (ok : generator_ok g (shown 
     pub few : t ≤ m
     pub due : (k : ℕ) → is_due_by g (shown_after e k) ≡ leb t k
 
-  pub edge_some : (m : ℕ) → (tick m ≡ 0 → ⊥) → EdgeIn m (tick m)
-  edge_some m n = by (is_running g) refl (leb need (amount_of e.steering m)) refl
+  pub edge_some : (m t : ℕ) → tick m ≡ Some t → EdgeIn m t
+  edge_some m x z = by (is_running g) refl (leb need (amount_of e.steering m)) refl
     where
-      by : (r : Bool) → is_running g ≡ r → (t : Bool) → leb need (amount_of e.steering m) ≡ t → EdgeIn m (tick m)
+      by : (r : Bool) → is_running g ≡ r → (t : Bool) → leb need (amount_of e.steering m) ≡ t → EdgeIn m x
       by true r true t =
-          rw (tick_by m true true r t)
+          let some = tick_by m true true r t in
+          let is : x ≡ cycles_to e.steering need = cc in
+          rw is
           (record {
             some = cycles_some e.steering need;
             few = leb-true _ _ (sym (due_when r m) ∙ due_amount r m ∙ t);
             due = due_when r;
           })
-      by true r false t = absurd (n (tick_by m true false r t))
-      by false r t q = absurd (n (tick_by m false t r q))
+      by true r false t = let none = tick_by m true false r t in absurd (cc)
+      by false r t q = let none = tick_by m false t r q in absurd (cc)
 
 -- the end of time, of n ticks that bring less than a second
 module _ (e : Engine) (v : Valid e) (n : ℕ) (short : amount_of e.steering n < 2 ^ 60) where

@@ -1,10 +1,10 @@
--- What the functions ask: a clock, a steering and a generator in range, and a stretch of less than a second.
+-- What the functions ask: a clock, a steering and a generator in range, and ticks that bring less than a second.
 use Rattle.std.specs.Prelude.{ℕ, ◌+◌, ◌≤◌, ◌<◌, ◌^◌, ◌≡◌, true}
 use Rattle.model.specs.declared.Clock.{Clock}
 use Rattle.model.specs.declared.Steering.{Steering}
 use Rattle.model.specs.declared.Generator.{Generator}
 use Rattle.model.specs.Clock.{shown}
-use Rattle.model.specs.Ranges.{steering_ok, generator_ok}
+use Rattle.model.specs.Ranges.{steering_ok}
 use Rattle.model.specs.Bounds.{ClockRange, RunningRange}
 use Rattle.elapse.specs.Seconds.{in_second}
 
@@ -19,7 +19,3 @@ pub record InTime (k : Clock) (here : ℕ) (s : Steering) (amount : ℕ) : Type 
   pub in_here : here ≡ in_second k
   pub steering : steering_ok s ≡ true
   pub short : amount < 2 ^ 60
-
-pub record Reaching (g : Generator) (k : Clock) (here : ℕ) (s : Steering) (amount : ℕ) : Type 0 where
-  pub in_time : InTime k here s amount
-  pub generator : generator_ok g (shown k) ≡ true

@@ -1,6 +1,7 @@
 -- The cycle in which the exact time has gained so much: until an edge, or until the end of time. Times are in 2^-32 ns,
 -- cycles are counted from 1. Document 02, A.1 and A.4.
-use Rattle.std.specs.Prelude.{ℕ, ◌+◌, ◌*◌, ◌-◌, ◌/◌, ◌^◌, ◌&&◌, cond, eqb, leb}
+use Rattle.std.specs.Prelude.{ℕ, ◌+◌, ◌*◌, ◌-◌, ◌/◌, ◌^◌, ◌&&◌, cond, eqb, leb, Some, None}
+use Rattle.std.specs.declared.option.Option.{Option}
 use Rattle.model.specs.declared.Clock.{Clock}
 use Rattle.model.specs.declared.Steering.{Steering}
 use Rattle.model.specs.declared.Generator.{Generator}
@@ -33,9 +34,9 @@ edge_time g = pending_total g * 256 / g.denominator + 1
 abbrev pub edge_need : Generator → Clock → ℕ
 edge_need g k = edge_time g * 2 ^ 24 - exact k
 
--- the tick in which a generator has its edge, in a stretch that brings an amount; 0 where it has none
-unfoldable pub edge_tick : Generator → Clock → Steering → ℕ → ℕ
-edge_tick g k s amount = cond (is_running g && leb (edge_need g k) amount) (cycles_to s (edge_need g k)) 0
+-- the tick in which a generator has its edge, in a stretch that brings an amount, where it has one
+unfoldable pub edge_tick : Generator → Clock → Steering → ℕ → Option ℕ
+edge_tick g k s amount = cond (is_running g && leb (edge_need g k) amount) (Some (cycles_to s (edge_need g k))) None
 
 -- of n ticks that bring an amount, less than a second, those before the end of time: fewer only in the last second
 unfoldable pub ticks_in_time : Clock → Steering → ℕ → ℕ → ℕ

@@ -9,40 +9,38 @@ ghost use Rattle.model.specs.Record.{generator, with_generator};
 
 use model::{Clock, Engine, Generator, Interrupts, Steering, Words};
 
-pub fn with_clock(mut e: Engine, k: Clock) -> Engine
+pub fn with_clock(e: Engine, k: Clock) -> Engine
     ensures { result ≡ with_clock e k }
 {
-    e.clock = k;
-    e
+    Engine { clock: k, ..e }
 }
 
-pub fn with_steering(mut e: Engine, s: Steering) -> Engine
+pub fn with_steering(e: Engine, s: Steering) -> Engine
     ensures { result ≡ with_steering e s }
 {
-    e.steering = s;
-    e
+    Engine { steering: s, ..e }
 }
 
-pub fn with_interrupts(mut e: Engine, i: Interrupts) -> Engine
+pub fn with_interrupts(e: Engine, i: Interrupts) -> Engine
     ensures { result ≡ with_interrupts e i }
 {
-    e.interrupts = i;
-    e
+    Engine { interrupts: i, ..e }
 }
 
-pub fn with_words(mut e: Engine, w: Words) -> Engine
+pub fn with_words(e: Engine, w: Words) -> Engine
     ensures { result ≡ with_words e w }
 {
-    e.words = w;
-    e
+    Engine { words: w, ..e }
 }
 
-pub fn with_generators(mut e: Engine, x: Generator, y: Generator) -> Engine
+pub fn with_generators(e: Engine, x: Generator, y: Generator) -> Engine
     ensures { result ≡ with_generators e x y }
 {
-    e.generator1 = x;
-    e.generator2 = y;
-    e
+    Engine {
+        generator1: x,
+        generator2: y,
+        ..e
+    }
 }
 
 // Generator 1 or 2, by number.
@@ -52,13 +50,12 @@ pub fn generator_at(e: Engine, n: u64) -> Generator
     if n == 1 { e.generator1 } else { e.generator2 }
 }
 
-pub fn with_generator(mut e: Engine, n: u64, g: Generator) -> Engine
+pub fn with_generator(e: Engine, n: u64, g: Generator) -> Engine
     ensures { result ≡ with_generator e n g }
 {
     if n == 1 {
-        e.generator1 = g;
-        return e;
+        Engine { generator1: g, ..e }
+    } else {
+        Engine { generator2: g, ..e }
     }
-    e.generator2 = g;
-    e
 }

@@ -1,2 +1,2 @@
 -- Why a result of zeros is its line number and one text.
-pub mod ZerosWritten
+pub mod Zeros

@@ -7,7 +7,6 @@ use borrow.Author.Tests.{leb-true}
 use Rattle.model.specs.declared.Engine.{Engine}
 use Rattle.model.specs.declared.Command.{Command}
 use Rattle.model.specs.Tests.{every}
-use Rattle.model.specs.Words.{no_words}
 use Rattle.model.specs.Outcome.{accepted}
 use Rattle.model.specs.Tick.{ends_in_time}
 use Rattle.model.specs.RunLine.{run_values, run, ran}
@@ -17,7 +16,9 @@ use Rattle.model.specs.Fields.{run_fields, fields_ok, field_tests}
 use Rattle.model.specs.Checks.{answer_of, checks}
 use Rattle.model.specs.Execute.{execute}
 use Rattle.model.proofs.Laws.Testing.{facts}
-use Rattle.change.specs.Changes.{change_to, Gives}
+use Rattle.change.specs.declared.refusal.Refusal.TheVariants.{Fields, TimeOver}
+use Rattle.std.specs.Prelude.{Ok, Err}
+use Rattle.change.specs.Changes.{Gives}
 use Rattle.change.proofs.Given.{refused_gives, others_still}
 use Rattle.run.specs.Runs.{ran_to}
 use Rattle.run.proofs.Kept.{run_applied}
@@ -31,16 +32,16 @@ module _ (e : Engine) (c : Command) (v : valid e ≡ true) (o : c.op ≡ 9) wher
   unfolding answer_of checks fields_ok field_tests
   run_answer = rw (v, o) refl
 
-  pub fields_refused : every (run_fields c) ≡ false → Gives e c (execute e c) (change_to 6 no_words e false)
+  pub fields_refused : every (run_fields c) ≡ false → Gives e c (execute e c) (Err Fields)
   unfolding execute
-  fields_refused f = refused_gives e c 6 _ (rw (run_answer, f) refl) (rw (run_answer, f) refl)
+  fields_refused f = refused_gives e c Fields _ (rw (run_answer, f) refl) (rw (run_answer, f) refl)
 
   module _ (f : every (run_fields c) ≡ true) where
-    pub late_refused : ends_in_time e ≡ false → Gives e c (execute e c) (change_to 15 no_words e false)
+    pub late_refused : ends_in_time e ≡ false → Gives e c (execute e c) (Err TimeOver)
     unfolding execute
-    late_refused t = refused_gives e c 15 _ (rw (run_answer, f, t) refl) (rw (run_answer, f, t) refl)
+    late_refused t = refused_gives e c TimeOver _ (rw (run_answer, f, t) refl) (rw (run_answer, f, t) refl)
 
-    pub run_gives : ends_in_time e ≡ true → Gives e c (execute e c) (ran_to (run c.a e))
+    pub run_gives : ends_in_time e ≡ true → Gives e c (execute e c) (Ok (ran_to (run c.a e)))
     unfolding execute performed ran
     run_gives t = record {
       is = ap (accepted (run_values (run c.a e))) (run_applied c.a e) ∙ rw (run_answer, f, t, o) refl;

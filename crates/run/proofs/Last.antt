@@ -9,6 +9,7 @@ use Rattle.model.specs.Generator.{completes_event, completes_sequence}
 use Rattle.model.specs.Interrupts.{positions, latch}
 use Rattle.model.specs.Tick.{tick_step, tick_events, no_inputs}
 use Rattle.model.specs.Elapse.{elapsed}
+use Rattle.interrupts.specs.declared.Source.TheVariants.{Tac, P1Ec, P1Sc, P2Ec, P2Sc}
 use Rattle.interrupts.specs.Position.{latch_one, latch_two}
 
 pub latched_outputs : (b : Engine) (word : ℕ)
@@ -17,9 +18,9 @@ pub latched_outputs : (b : Engine) (word : ℕ)
     let one = b.generator1 in
     let two = b.generator2 in
     latch positions (tick_events b no_inputs) word
-    ≡ latch_two 3 (completes_event two a s) (completes_sequence two a s)
-    (latch_two 1 (completes_event one a s) (completes_sequence one a s)
-    (latch_one 0 (last_cycle b.steering.adjustment) word))
+    ≡ latch_two P2Ec (completes_event two a s) P2Sc (completes_sequence two a s)
+    (latch_two P1Ec (completes_event one a s) P1Sc (completes_sequence one a s)
+    (latch_one Tac (last_cycle b.steering.adjustment) word))
 unfolding tick_events captures_first overflows latch latch_one latch_two
 latched_outputs b word = refl
 

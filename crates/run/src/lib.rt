@@ -10,98 +10,72 @@ ghost use Rattle.model.specs.Execute.{execute};
 ghost use Rattle.change.specs.Changes.{Gives};
 ghost use Rattle.run.specs.Runs.{earliest, quietly, ran_to, Starting, Ending};
 
-use change::{Change, change_to};
-use interrupts::{latch, latch_two};
+use change::{Change, Refusal, change_to};
+use interrupts::{Source, latch};
 use model::{Command, Engine, Interrupts, WORD_LIMIT, Words};
-use words::no_words;
+use reach::Span;
 
-// The earlier of two ticks, where 0 is none.
-fn earlier(a: u64, b: u64) -> u64
+// The earlier of two ticks, where there is one.
+fn earlier(a: Option<u64>, b: Option<u64>) -> Option<u64>
     ensures { result ≡ earliest a b }
 {
-    if b == 0 {
-        return a;
+    match (a, b) {
+        (Some(a), Some(b)) => Some(a.min(b)),
+        _ => a.or(b),
     }
-    if a == 0 {
-        return b;
-    }
-    if a <= b { a } else { b }
 }
 
-// n ticks without an edge, which bring this amount; `here` is what of the exact time lies in the second shown.
-fn pass(e: Engine, here: u64, n: u64, amount: u64) -> Change
-    requires starting { Starting e here n }
-    requires amount_value { amount ≡ amount_of e.steering n }
+// n ticks without an edge.
+fn pass(e: Engine, n: u64, span: Span) -> Change
+    requires starting { Starting e n }
+    requires clock_value { span.clock ≡ e.clock }
+    requires amount_value { span.amount ≡ amount_of e.steering n }
     ensures { result ≡ ran_to (quietly n e) }
 {
     let ended = elapse::ends_within(e.steering.adjustment, n);
-    let latched = latch(e.interrupts.latched, 0, ended);
-    let steering = elapse::steer_by(e.steering, n);
-    let clock = elapse::clock_at(e.clock.seconds, here + amount);
-    let generator1 = e.generator1;
-    let generator2 = e.generator2;
-    let words = e.words;
+    let values = Words {
+        w3: n % WORD_LIMIT,
+        w4: n / WORD_LIMIT,
+        ..Words::default()
+    };
     Change {
-        answer: 0,
-        values: Words {
-            w1: 0,
-            w2: 0,
-            w3: n % WORD_LIMIT,
-            w4: n / WORD_LIMIT,
-            w5: 0,
-        },
-        clock: clock,
-        steering: steering,
-        generator1: generator1,
-        generator2: generator2,
+        clock: elapse::clock_at(e.clock.seconds, span.here + span.amount),
+        steering: elapse::steer_by(e.steering, n),
         interrupts: Interrupts {
-            latched: latched,
-            enabled: e.interrupts.enabled,
+            latched: latch(e.interrupts.latched, Source::Tac, ended),
+            ..e.interrupts
         },
-        words: words,
-        moves: false,
+        ..change_to(values, e, false)
     }
 }
 
-// n ticks and one more, in which an edge falls. It places its edges itself: a second caller of the tick's parts would
-// keep the compiler from putting them into the loop of ticks.
-fn meet(e: Engine, here: u64, n: u64) -> Change
-    requires { Ending e here n }
+// n ticks and one more, in which an edge falls.
+fn meet(e: Engine, n: u64) -> Change
+    requires { Ending e n }
     ensures { result ≡ ran_to (one_tick (quietly n e)) }
 {
-    let before = pass(e, here, n, elapse::amount_of(e.steering, n));
+    let before = pass(e, n, Span::new(e.clock, e.steering, n));
     let steered = clock::steer(before.steering);
     let step = clock::step_by(before.clock, steered.amount);
     let next = clock::tick_clock(before.clock, steered.amount, step);
-    let tac = latch(before.interrupts.latched, 0, steered.last);
-    let one = generator::advance(e.generator1, before.clock, next, step);
-    let p1 = latch_two(tac, 1, one.code != 0, one.event, one.sequence);
-    let two = generator::advance(e.generator2, before.clock, next, step);
-    let p2 = latch_two(p1, 3, two.code != 0, two.event, two.sequence);
-    let generator1 = one.generator;
-    let generator2 = two.generator;
-    let steering = steered.steering;
-    let words = e.words;
+    let tac = latch(before.interrupts.latched, Source::Tac, steered.last);
+    let outputs = tick::advance_outputs(e.generator1, e.generator2, before.clock, next, step, tac);
     let done = n + 1;
     Change {
-        answer: 0,
         values: Words {
-            w1: one.code,
-            w2: two.code,
             w3: done % WORD_LIMIT,
             w4: done / WORD_LIMIT,
-            w5: 0,
+            ..outputs.values
         },
         clock: next,
-        steering: steering,
-        generator1: generator1,
-        generator2: generator2,
+        steering: steered.steering,
+        generator1: outputs.generator1,
+        generator2: outputs.generator2,
         interrupts: Interrupts {
-            latched: p2,
-            enabled: e.interrupts.enabled,
+            latched: outputs.latched,
+            ..e.interrupts
         },
-        words: words,
-        moves: false,
+        ..before
     }
 }
 
@@ -110,33 +84,32 @@ fn run_within(e: Engine, n: u64) -> Change
     requires { (valid e ≡ true) × (n ≤ 1000000) }
     ensures { result ≡ ran_to (run_spec n e) }
 {
-    let here = elapse::in_second(e.clock);
-    let amount = elapse::amount_of(e.steering, n);
-    let few = reach::ticks_in_time(e.clock, here, e.steering, n, amount);
-    let mut within = amount;
-    if few < n {
-        within = elapse::amount_of(e.steering, few);
+    let all = Span::new(e.clock, e.steering, n);
+    let few = all.ticks_in_time(n);
+    let within = if few < n {
+        Span::new(e.clock, e.steering, few)
+    } else {
+        all
+    };
+    let edge1 = within.edge_tick(e.generator1);
+    let edge2 = within.edge_tick(e.generator2);
+    match earlier(edge1, edge2) {
+        Some(first) => meet(e, first - 1),
+        None => pass(e, few, within),
     }
-    let tick1 = reach::edge_tick(e.generator1, e.clock, here, e.steering, within);
-    let tick2 = reach::edge_tick(e.generator2, e.clock, here, e.steering, within);
-    let first = earlier(tick1, tick2);
-    if first == 0 {
-        return pass(e, here, few, within);
-    }
-    meet(e, here, first - 1)
 }
 
 // Op 9 on a valid record: numbers 6 and 15, then the run.
-pub fn run(e: Engine, c: Command) -> Change
+pub fn run(e: Engine, c: Command) -> Result<Change, Refusal>
     requires e_value { valid e ≡ true }
     requires op_value { c.op ≡ 9 }
     ensures { Gives e c (execute e c) result }
 {
-    if fields::run_fields(c) {
-        if clock::has_time_left(e.clock, e.steering) {
-            return run_within(e, c.a);
-        }
-        return change_to(15, no_words(), e, false);
+    if !fields::run_fields(c) {
+        return Err(Refusal::Fields);
     }
-    change_to(6, no_words(), e, false)
+    if !clock::has_time_left(e.clock, e.steering) {
+        return Err(Refusal::TimeOver);
+    }
+    Ok(run_within(e, c.a))
 }

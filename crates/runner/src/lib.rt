@@ -7,41 +7,45 @@ ghost use Rattle.std.specs.Prelude.{◌+◌, ◌≤◌, ◌≡◌, length};
 ghost use Rattle.text.specs.Forms.{sheet_accepted};
 ghost use Rattle.text.specs.Sheet.{sheet_verdict};
 ghost use Rattle.text.specs.Results.{command_results};
-ghost use Rattle.numerals.specs.Written.{Written};
+ghost use Rattle.numerals.specs.Written.{HasRoom, AppendsText};
 ghost use Rattle.runner.specs.Ran.{Ran};
 
+use lines::next_line;
+use model::Words;
+use numerals::TextWriter;
 use result_lines::put_result;
+use writing::put_bytes;
 
 // The first line of the results, its line end included.
 const HEAD: [u8; 27] = *b"line,answer,v1,v2,v3,v4,v5\n";
 
 // A line for each command of an accepted sheet, run from power-on.
-fn put_results(s: &[u8], out: &mut [u8], from: usize) -> usize
+fn put_results(s: &[u8], writer: &mut TextWriter<'_>)
     requires s_value { sheet_verdict s.now ≡ sheet_accepted }
-    requires s_in_bounds { from + length (command_results s.now) ≤ length out.old }
-    ensures { Written out.old out.new from (command_results s.now) result }
+    requires room { HasRoom writer.old (command_results s.now) }
+    ensures { AppendsText writer.old writer.new (command_results s.now) }
 {
     let mut e = engine::power_on();
-    let mut k: u64 = 2;
-    let mut at = 19;
-    let mut end = from;
-    let mut answer: u64 = 0;
-    while at < s.len() {
-        let next = lines::next_at(s, at);
-        let line = next.line;
-        let command = line.command;
-        let m = engine::change_by(e, command);
-        if m.moves {
-            e = engine::move_fifos(e, command);
+    let mut line = 2;
+    let mut rest = &s[19..];
+    loop {
+        let next = next_line(rest);
+        let Some(command) = next.line else {
+            return;
+        };
+        match engine::change_by(e, command) {
+            Ok(change) => {
+                if change.moves {
+                    e = engine::move_fifos(e, command);
+                }
+                e = change::apply(e, change);
+                put_result(writer, line, 0, change.values);
+            }
+            Err(refusal) => put_result(writer, line, refusal.number(), Words::default()),
         }
-        e = change::apply(e, m);
-        answer = m.answer;
-        let values = m.values;
-        end = put_result(out, end, k, answer, values);
-        at = next.end + 1;
-        k += 1;
+        rest = &rest[next.end + 1..];
+        line += 1;
     }
-    end
 }
 
 // The whole sheet. The results stand at the front of the buffer, and their length is returned; a buffer of fewer than
@@ -53,10 +57,16 @@ pub fn run_sheet(s: &[u8], out: &mut [u8]) -> usize
     if out.len() < 138309 {
         return 0;
     }
-    let verdict = sheet::check_sheet(s);
-    let at = writing::put_bytes(out, 0, &HEAD);
-    if verdict.answer == 0 {
-        return put_results(s, out, at);
+    let mut writer = TextWriter { out, end: 0 };
+    put_bytes(&mut writer, &HEAD);
+    match sheet::check_sheet(s) {
+        Ok(()) => put_results(s, &mut writer),
+        Err(refusal) => put_result(
+            &mut writer,
+            refusal.line(),
+            refusal.number(),
+            Words::default(),
+        ),
     }
-    put_result(out, at, verdict.line, verdict.answer, words::no_words())
+    writer.end
 }

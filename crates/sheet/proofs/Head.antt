@@ -1,25 +1,46 @@
--- A sheet that neither its size nor its first line refuses is short, and begins with that line.
-use Prim.Native.Nat.{ℕ, ◌≤◌}
-use mathlib.Core.Path.{◌≡◌, refl, sym, ap, ◌∙◌}
+-- The library's test whether a text begins with another is the definition. A sheet that neither its size nor its first
+-- line refuses is short, and begins with that line.
+use Prim.Native.Nat.{ℕ, ◌-◌, ◌≤◌}
+use mathlib.Core.Path.{◌≡◌, refl}
 use mathlib.Core.Bool.{Bool, true, false, cond}
-use mathlib.Core.List.{List}
+use mathlib.Core.List.{List, [], ◌∷◌}
 use native.Mathlib.Omega.{arith}
 use lib.Dec.{ltb}
-use lib.ListN.{length}
+use lib.ListN.{length, take, drop}
 use borrow.Author.Tests.{ltb-false}
-use Rattle.text.specs.declared.Verdict.{Verdict}
-use Rattle.text.specs.Text.{starts_with}
-use Rattle.text.specs.Forms.{refused_at, sheet_accepted, head_verdict}
+use Rattle.std.specs.Prelude.{nat_eq, Err}
+use Rattle.std.specs.List as Std
+use Rattle.std.proofs.lemmas.Bool.Decides.{nat_tests}
+use Rattle.text.specs.declared.SheetRefusal.TheVariants.{TooLong, FirstLine}
+use Rattle.text.specs.Text.{line_end, parts, starts_with}
+use Rattle.text.specs.Forms.{sheet_accepted, head_verdict, verdict_then, verdict_of}
+use Rattle.text.specs.Sheet.{first_line, command_sheet, body_verdict, sheet_verdict}
+use Rattle.text.proofs.Laws.FirstPart.{rest_is}
+use Rattle.text.proofs.Laws.Starts.{starts_length}
 
-pub head_passed : (first s : List ℕ) (v : Verdict) → v ≡ head_verdict first s → v.answer ≡ 0
-    → (length s ≤ 65536) × (starts_with first s ≡ true)
+eq_turned : (b c : ℕ) → nat_eq b c ≡ nat_eq c b
+eq_turned b c = grind (arith, nat_tests)
+
+pub same_start : (h s : List ℕ) → Std.starts_with nat_eq s h ≡ starts_with h s
+same_start [] s = refl
+same_start (b ∷ h) [] = refl
+same_start (b ∷ h) (c ∷ s) = rw (eq_turned b c, same_start h s) refl
+
+pub head_passed : (first s : List ℕ) → head_verdict first s ≡ sheet_accepted
+    → (length first ≤ length s) × (length s ≤ 65536)
 unfolding head_verdict
-head_passed first s v is zero =
-    by (ltb 65536 (length s)) (starts_with first s) refl refl (sym (ap (λ (x : Verdict). x.answer) is) ∙ zero)
+head_passed first s h = by (ltb 65536 (length s)) (starts_with first s) refl refl h
   where
     by : (over starts : Bool) → ltb 65536 (length s) ≡ over → starts_with first s ≡ starts
-        → (cond over (refused_at 0 1) (cond starts sheet_accepted (refused_at 1 2))).answer ≡ 0
-        → (length s ≤ 65536) × (starts_with first s ≡ true)
-    by true starts p q h = absurd (omega arith)
-    by false false p q h = absurd (omega arith)
-    by false true p q h = (ltb-false _ _ p, q)
+        → cond over (Err TooLong) (cond starts sheet_accepted (Err FirstLine)) ≡ sheet_accepted
+        → (length first ≤ length s) × (length s ≤ 65536)
+    by true starts p q h = cc
+    by false false p q h = cc
+    by false true p q h = (starts_length first s q, ltb-false _ _ p)
+
+-- the command sheet is judged by its head, and then by its lines
+pub by_head : (s : List ℕ)
+    → sheet_verdict s
+    ≡ verdict_then (head_verdict first_line s) (body_verdict 2 (parts line_end (take (length s - 19) (drop 19 s))))
+unfolding verdict_of command_sheet
+by_head s = rw (rest_is s 19) refl

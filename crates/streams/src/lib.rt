@@ -79,16 +79,13 @@ pub fn write_results<R: Read, W: Write>(input: &mut R, output: &mut W) -> Result
         IsNotRead failure → Keeps (W.contents output.old) (W.contents output.new)) }
 {
     let mut sheet = [0u8; 65537];
-    let count = match read_until_full(input, &mut sheet) {
-        Ok(count) => count,
-        Err(e) => return Err(Failure::NotRead(e)),
-    };
+    let count = read_until_full(input, &mut sheet).map_err(Failure::NotRead)?;
     let mut results = [0u8; 138309];
     let length = results_of(&sheet[..count], &mut results);
-    match output.write_all(&results[..length]) {
-        Ok(()) => Ok(()),
-        Err(e) => Err(Failure::NotWritten(e)),
-    }
+    output
+        .write_all(&results[..length])
+        .map_err(Failure::NotWritten)?;
+    Ok(())
 }
 
 // The same, where a failure is not silent: standard error says what failed. The error is standard error's own.

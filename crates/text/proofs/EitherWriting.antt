@@ -3,12 +3,11 @@
 -- is read exactly as when there was decimal alone, whatever its bytes.
 use Prim.Native.Nat.{ℕ, ◌^◌, ◌≤◌, ◌<◌}
 use mathlib.Core.Path.{◌≡◌, refl, sym, ap, ◌∙◌}
-use mathlib.Core.Bool.{true}
 use mathlib.Core.List.{List, map}
 use mathlib.Core.Logic.{◌⊎◌, inl, inr}
 use lib.ListN.{length, replicate}
+use Rattle.std.specs.Prelude.{Some}
 use Rattle.model.specs.declared.Command.{Command}
-use Rattle.text.specs.declared.Value.{Value}
 use Rattle.text.specs.Text.{value_of, Lacks, decimal, base16}
 use Rattle.text.specs.Forms.{either_value, WritesEach, with_commas, rows_in, verdict_of}
 use Rattle.text.specs.Sheet.{decimal_sheet, command_of, Writes, line_of, sheet_verdict, commands_in}
@@ -18,23 +17,19 @@ use Rattle.text.proofs.Laws.TwoWritings.{value_read, value_written}
 use Rattle.text.proofs.Laws.PlainSheets.{sheet_plain}
 use Rattle.text.proofs.Sheets.{written_is_read}
 
--- a value that means a number
-abbrev pub value : ℕ → Value
-value n = record { ok = true; number = n }
-
-pub decimal_read : (n : ℕ) → n < 2 ^ 64 → value_of (decimal n) ≡ value n
+pub decimal_read : (n : ℕ) → n < 2 ^ 64 → value_of (decimal n) ≡ Some n
 decimal_read n l = value_read (decimal n) n (inl (refl, l))
 
-pub base16_read : (n : ℕ) → n < 2 ^ 64 → value_of (base16 n) ≡ value n
+pub base16_read : (n : ℕ) → n < 2 ^ 64 → value_of (base16 n) ≡ Some n
 base16_read n l = value_read (base16 n) n (inr (refl, l))
 
-pub no_other_writing : (bs : List ℕ) (n : ℕ) → value_of bs ≡ value n
+pub no_other_writing : (bs : List ℕ) (n : ℕ) → value_of bs ≡ Some n
     → ((bs ≡ decimal n) × (n < 2 ^ 64)) ⊎ ((bs ≡ base16 n) × (n < 2 ^ 64))
 no_other_writing = value_written
 
 -- nine texts, each in whichever writing, are a line of the command of their numbers
 pub line_read : (ts : List (List ℕ)) (ns : List ℕ) → WritesEach (replicate 9 either_value) ts ns
-    → line_of (with_commas ts) ≡ record { ok = true; command = command_of ns }
+    → line_of (with_commas ts) ≡ Some (command_of ns)
 line_read = texts_line
 
 -- so other writings of the same numbers give one command

@@ -2,8 +2,9 @@
 -- to 3. Document 01, "Command sheet" and "Where each command is checked"; document 02, A.8, has a second sheet, for
 -- which "the size, first-line and form checks carry over".
 use Rattle.std.specs.Prelude.{ℕ, ◌+◌, ◌^◌, ◌<◌, ◌≡◌, ◌⊎◌, List, [], ◌∷◌, ◌++◌, Bool, true, false, ◌&&◌, cond, eqb}
-use Rattle.std.specs.Prelude.{ltb, length, drop}
-use Rattle.text.specs.declared.Verdict.{Verdict}
+use Rattle.std.specs.Prelude.{ltb, length, drop, Result, Ok, Err}
+use Rattle.text.specs.declared.SheetRefusal.{SheetRefusal}
+use Rattle.text.specs.declared.SheetRefusal.TheVariants.{TooLong, FirstLine, ValueLine}
 use Rattle.text.specs.Text.{comma, line_end, number_after, is_number, starts_with, base_prefix, is_value, number_of}
 use Rattle.text.specs.Text.{parts, decimal, base16}
 
@@ -115,26 +116,44 @@ rows_in f s = rows_of f (parts line_end (drop (length f.first_line) s))
 
 -- ---- the answer to it
 
--- the sheet is accepted, or refused at a line with a number
-abbrev pub refused_at : ℕ → ℕ → Verdict
-refused_at line answer = record { line = line; answer = answer }
+-- the number of a refusal, and the line where it stands: 1 over 65,536 bytes (line 0); 2 first line differs (line 1);
+-- 3 a value line of another form (its line)
+abbrev pub refusal_number : SheetRefusal → ℕ
+refusal_number TooLong = 1
+refusal_number FirstLine = 2
+refusal_number (ValueLine line) = 3
+
+abbrev pub refusal_line : SheetRefusal → ℕ
+refusal_line TooLong = 0
+refusal_line FirstLine = 1
+refusal_line (ValueLine line) = line
+
+-- the sheet is accepted, or refused
+abbrev pub Verdict : Type 0
+Verdict = Result (Unit {0}) SheetRefusal
 
 abbrev pub sheet_accepted : Verdict
-sheet_accepted = refused_at 0 0
+sheet_accepted = Ok tt
 
 -- the value lines from line number k on; what stands behind the last line end has to be empty
 abbrev pub lines_verdict : Form → ℕ → List (List ℕ) → Verdict
 lines_verdict f k [] = sheet_accepted
-lines_verdict f k (l ∷ []) = cond (eqb (length l) 0) sheet_accepted (refused_at k 3)
-lines_verdict f k (l ∷ m ∷ ls) = cond (reads_line f l) (lines_verdict f (k + 1) (m ∷ ls)) (refused_at k 3)
+lines_verdict f k (l ∷ []) = cond (eqb (length l) 0) sheet_accepted (Err (ValueLine k))
+lines_verdict f k (l ∷ m ∷ ls) = cond (reads_line f l) (lines_verdict f (k + 1) (m ∷ ls)) (Err (ValueLine k))
 
--- 1 over 65,536 bytes (line 0); 2 first line differs (line 1)
+-- the size, then the first line
 unfoldable pub head_verdict : (first_line s : List ℕ) → Verdict
 head_verdict first_line s =
-    cond (ltb 65536 (length s)) (refused_at 0 1) (cond (starts_with first_line s) sheet_accepted (refused_at 1 2))
+    cond (ltb 65536 (length s)) (Err TooLong) (cond (starts_with first_line s) sheet_accepted (Err FirstLine))
 
--- 3 first value line of another form (its line)
+-- a verdict, and where it is no refusal the next
+abbrev pub verdict_then : Verdict → Verdict → Verdict
+verdict_then (Ok u) next = next
+verdict_then (Err e) next = Err e
+
+-- the size, the first line, and the first value line of another form
 unfoldable pub verdict_of : Form → List ℕ → Verdict
 verdict_of f s =
-    let head = head_verdict f.first_line s in
-    cond (eqb head.answer 0) (lines_verdict f 2 (parts line_end (drop (length f.first_line) s))) head
+    verdict_then
+    (head_verdict f.first_line s)
+    (lines_verdict f 2 (parts line_end (drop (length f.first_line) s)))

@@ -1,11 +1,11 @@
 -- What the runner prints for a sheet: the head, then a line for each command of the run from power-on, or the one line
 -- of a refused sheet. Document 01, "Command sheet".
-use Rattle.std.specs.Prelude.{ℕ, ◌+◌, ◌*◌, List, [], ◌∷◌, ◌++◌, cond, eqb}
+use Rattle.std.specs.Prelude.{ℕ, ◌+◌, ◌*◌, List, [], ◌∷◌, ◌++◌, Ok, Err}
 use Rattle.model.specs.declared.Words.{Words}
-use Rattle.text.specs.declared.Verdict.{Verdict}
 use Rattle.model.specs.Words.{no_words}
 use Rattle.model.specs.Run.{Entry, history}
 use Rattle.text.specs.Text.{bytes, row}
+use Rattle.text.specs.Forms.{Verdict, refusal_number, refusal_line}
 use Rattle.text.specs.Sheet.{sheet_verdict, commands_in}
 
 -- `line,answer,v1,v2,v3,v4,v5` and its line end
@@ -27,8 +27,8 @@ command_results s = result_lines 2 (history (commands_in s))
 
 -- a refused sheet has one line: line number, answer, zeros
 abbrev pub results_by : Verdict → List ℕ → List ℕ
-results_by verdict s =
-    cond (eqb verdict.answer 0) (command_results s) (result_line verdict.line verdict.answer no_words)
+results_by (Ok u) s = command_results s
+results_by (Err e) s = result_line (refusal_line e) (refusal_number e) no_words
 
 unfoldable pub results : List ℕ → List ℕ
 results s = result_head ++ results_by (sheet_verdict s) s

@@ -1,13 +1,12 @@
 -- The command sheet: its form, its lines as commands, and the decimal text of a list of commands. Document 01, "Command
 -- sheet".
-use Rattle.std.specs.Prelude.{ℕ, ◌^◌, List, [], ◌∷◌, ◌++◌, map, Bool, true, false, ◌&&◌, cond, ltb, get_or, replicate}
+use Rattle.std.specs.Prelude.{ℕ, ◌^◌, List, [], ◌∷◌, ◌++◌, map, Bool, true, ◌&&◌, cond, ltb, get_or, replicate}
+use Rattle.std.specs.Prelude.{Option, Some, None}
 use Rattle.model.specs.declared.Command.{Command}
-use Rattle.text.specs.declared.Line.{Line}
-use Rattle.text.specs.declared.Verdict.{Verdict}
 use Rattle.model.specs.Tests.{every}
 use Rattle.text.specs.Text.{bytes, row}
 use Rattle.text.specs.Forms.{Form, decimal_value, either_value, WritesSheet, reads_line, row_in, rows_of, rows_in}
-use Rattle.text.specs.Forms.{lines_verdict, verdict_of}
+use Rattle.text.specs.Forms.{Verdict, lines_verdict, verdict_of}
 
 -- the version of the sheet format: 1 is document 01's, 2 has run lines, 3 previews, 4 values in base 16, 5 departure
 -- times (document 02, A.1, A.5, A.6 and A.7). A change of what a sheet may say counts it on
@@ -53,11 +52,8 @@ is_line bs = reads_line command_sheet bs
 abbrev pub command_in : List ℕ → Command
 command_in bs = command_of (row_in command_sheet bs)
 
-abbrev pub no_line : Line
-no_line = record { ok = false; command = command_of [] }
-
-unfoldable pub line_of : List ℕ → Line
-line_of bs = cond (is_line bs) (record { ok = true; command = command_in bs }) no_line
+unfoldable pub line_of : List ℕ → Option Command
+line_of bs = cond (is_line bs) (Some (command_in bs)) None
 
 -- the answer to the sheet, and to its value lines from line number k on
 abbrev pub sheet_verdict : List ℕ → Verdict

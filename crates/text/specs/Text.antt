@@ -3,8 +3,7 @@
 use Prim.Native.Char.{code}
 use Prim.Native.String.{String}
 use Rattle.std.specs.Prelude.{ℕ, zero, suc, ◌+◌, ◌*◌, ◌-◌, ◌/◌, ◌%◌, ◌^◌, ◌≡◌, List, [], ◌∷◌, ◌++◌, Bool, true, false}
-use Rattle.std.specs.Prelude.{◌&&◌, ◌||◌, not, cond, eqb, leb, ltb, get_or, drop}
-use Rattle.text.specs.declared.Value.{Value}
+use Rattle.std.specs.Prelude.{◌&&◌, ◌||◌, not, cond, eqb, leb, ltb, get_or, drop, Option, Some, None}
 
 -- a quoted text as its bytes
 abbrev pub bytes : String → List ℕ
@@ -59,12 +58,9 @@ is_value bs = is_number 10 bs || (starts_with base_prefix bs && is_number 16 (dr
 unfoldable pub number_of : List ℕ → ℕ
 number_of bs = cond (starts_with base_prefix bs) (number_after 16 0 (drop 2 bs)) (number_after 10 0 bs)
 
-abbrev pub no_value : Value
-no_value = record { ok = false; number = 0 }
-
 -- the number of a value, or none
-unfoldable pub value_of : List ℕ → Value
-value_of bs = cond (is_value bs) (record { ok = true; number = number_of bs }) no_value
+unfoldable pub value_of : List ℕ → Option ℕ
+value_of bs = cond (is_value bs) (Some (number_of bs)) None
 
 -- no byte of a text is this one
 abbrev pub Lacks : ℕ → List ℕ → Type 0

@@ -1,26 +1,41 @@
-// The plain types of text: what a value, a line and a sheet read as. They are declared here and nothing runs here; what
-// they mean stands in specs/, to be read in the order of specs/Lib.antt.
+// The answer to a command sheet as a whole, `Result<(), SheetRefusal>`. The rest of text is values, lines and results
+// as bytes, of which nothing runs here: what they mean stands in specs/, to be read in the order of specs/Lib.antt.
 #![tactic(auto)]
 
-use model::Command;
+ghost use Rattle.std.specs.Prelude.{◌≡◌};
+ghost use Rattle.text.specs.Forms.{refusal_number, refusal_line};
 
-// What a text reads as: a number, or no value.
-#[derive(Clone, Copy)]
-pub struct Value {
-    pub ok: bool,
-    pub number: u64,
+// Why a sheet is refused as a whole. Document 01, "Where each command is checked".
+#[derive(Clone, Copy, PartialEq, Eq)]
+pub enum SheetRefusal {
+    // over 65,536 bytes
+    TooLong,
+    // the first line differs
+    FirstLine,
+    // the value line of this number is of another form
+    ValueLine(u64),
 }
 
-// What a line of a command sheet reads as: a command, or no value line.
-#[derive(Clone, Copy)]
-pub struct Line {
-    pub ok: bool,
-    pub command: Command,
-}
+impl SheetRefusal {
+    // The number that document 01 gives it.
+    pub fn number(self) -> u64
+        ensures { result ≡ refusal_number self }
+    {
+        match self {
+            SheetRefusal::TooLong => 1,
+            SheetRefusal::FirstLine => 2,
+            SheetRefusal::ValueLine(_) => 3,
+        }
+    }
 
-// The answer to a command sheet as a whole: 0, or the number of its refusal and the line where it stands.
-#[derive(Clone, Copy)]
-pub struct Verdict {
-    pub line: u64,
-    pub answer: u64,
+    // The line where it stands: 0 for a size.
+    pub fn line(self) -> u64
+        ensures { result ≡ refusal_line self }
+    {
+        match self {
+            SheetRefusal::TooLong => 0,
+            SheetRefusal::FirstLine => 1,
+            SheetRefusal::ValueLine(line) => line,
+        }
+    }
 }

@@ -20,7 +20,7 @@ use Rattle.model.proofs.Laws.TickRange.{tick_step_bounds}
 use Rattle.clock.specs.Cycle.{Cycle}
 use Rattle.fifo.specs.Capture.{Capturing}
 use Rattle.generator.specs.Advance.{Ticking}
-use Rattle.tick.specs.Ticks.{Ticks, Advancing}
+use Rattle.tick.specs.Ticks.{Ticks}
 
 module _ (e : Engine) (c : Command) (t : Ticks e c) where
   facts : Accepted e c
@@ -50,11 +50,12 @@ module _ (e : Engine) (c : Command) (t : Ticks e c) where
     low = (tick_step_bounds e parts).1;
   }
 
-  pub advancing : Advancing e (ticked e.clock (cycle_amount e.steering)) (tick_step e)
-  advancing = record {
-    generator1 = ticking e.generator1 parts.generator1;
-    generator2 = ticking e.generator2 parts.generator2;
-  }
+  -- both generators may move in this tick
+  pub ticking1 : Ticking e.generator1 e.clock (ticked e.clock (cycle_amount e.steering)) (tick_step e)
+  ticking1 = ticking e.generator1 parts.generator1
+
+  pub ticking2 : Ticking e.generator2 e.clock (ticked e.clock (cycle_amount e.steering)) (tick_step e)
+  ticking2 = ticking e.generator2 parts.generator2
 
   -- an input's code may be captured
   pub codes_few : Codes c

@@ -4,50 +4,99 @@
 #![tactic(auto)]
 
 ghost use Rattle.std.specs.Prelude.{◌≡◌, true};
+ghost use Rattle.model.specs.Clock.{shown};
 ghost use Rattle.model.specs.Tick.{tick_engine, tick_values};
 ghost use Rattle.model.specs.Ranges.{valid};
 ghost use Rattle.model.specs.Execute.{execute};
 ghost use Rattle.change.specs.Changes.{change_to, timestamps_stored, Gives};
-ghost use Rattle.tick.specs.Ticks.{Ticks, Advancing, outputs_of, inputs_of, stores_any};
+ghost use Rattle.fifo.specs.Capture.{is_first, is_dropped};
+ghost use Rattle.generator.specs.Advance.{Ticking};
+ghost use Rattle.interrupts.specs.Position.{latch_two};
+ghost use Rattle.tick.specs.Ticks.{Ticks, output_of, outputs_of, inputs_of, stores_any};
 
-use change::{Change, change_to};
-use interrupts::{latch, latch_two};
+use change::{Change, Refusal};
+use fifo::Arrival;
+use generator::Edge;
+use interrupts::{Source, latch, latch_two};
 use model::{Clock, Command, Engine, Generator, Interrupts, Words};
-use tests::either;
-use words::no_words;
 
-// What a tick makes of the two generators: their codes as values, the generators after it, and the latched bits.
+// What a tick makes of a generator: its code, where 0 is none, the generator after it, and the latched bits.
 #[derive(Clone, Copy)]
-struct Outputs {
-    values: Words,
-    generator1: Generator,
-    generator2: Generator,
+struct Output {
+    code: u64,
+    generator: Generator,
     latched: u64,
 }
 
-// Events are latched in the order of the table of bit positions, each where it arises, so that a part to which nothing
-// happens costs no more than the look at it.
-fn advance_outputs(e: Engine, next: Clock, step: u64, latched: u64) -> Outputs
-    requires { Advancing e next step }
-    ensures { result ≡ outputs_of e step latched }
+// Events are latched each where it arises, so that a part to which nothing happens costs no more than the look at it.
+#[tactic(auto, unfolding(interrupts::specs::Position::latch_one, interrupts::specs::Position::latch_two))]
+fn latch_edge(edge: Option<Edge>, g: Generator, latched: u64, ec: Source, sc: Source) -> Output
+    ensures { result ≡ output_of edge g latched ec sc }
 {
-    let one = generator::advance(e.generator1, e.clock, next, step);
-    let p1 = latch_two(latched, 1, one.code != 0, one.event, one.sequence);
-    let two = generator::advance(e.generator2, e.clock, next, step);
-    let p2 = latch_two(p1, 3, two.code != 0, two.event, two.sequence);
-    let generator1 = one.generator;
-    let generator2 = two.generator;
+    match edge {
+        Some(edge) => Output {
+            code: edge.code,
+            generator: edge.generator,
+            latched: latch_two(latched, ec, edge.event, sc, edge.sequence),
+        },
+        None => Output {
+            code: 0,
+            generator: g,
+            latched,
+        },
+    }
+}
+
+// What a tick makes of the two generators: their codes as values, the generators after it, and the latched bits.
+#[derive(Clone, Copy)]
+pub struct Outputs {
+    pub values: Words,
+    pub generator1: Generator,
+    pub generator2: Generator,
+    pub latched: u64,
+}
+
+// Two generators in a tick of a step that takes the clock from k to next. Events are latched in the order of the table
+// of bit positions. A run calls it too, and neither is to pay for a call.
+#[tactic(auto, unfolding(crate::specs::Ticks::outputs_of))]
+#[inline(always)]
+pub fn advance_outputs(
+    generator1: Generator,
+    generator2: Generator,
+    k: Clock,
+    next: Clock,
+    step: u64,
+    latched: u64,
+) -> Outputs
+    requires first { Ticking generator1 k next step }
+    requires second { Ticking generator2 k next step }
+    ensures { result ≡ outputs_of generator1 generator2 (shown k) step latched }
+{
+    let edge1 = generator::advance(generator1, k, next, step);
+    let one = latch_edge(edge1, generator1, latched, Source::P1Ec, Source::P1Sc);
+    let edge2 = generator::advance(generator2, k, next, step);
+    let two = latch_edge(edge2, generator2, one.latched, Source::P2Ec, Source::P2Sc);
     Outputs {
         values: Words {
             w1: one.code,
             w2: two.code,
-            w3: 0,
-            w4: 0,
-            w5: 0,
+            ..Words::default()
         },
-        generator1: generator1,
-        generator2: generator2,
-        latched: p2,
+        generator1: one.generator,
+        generator2: two.generator,
+        latched: two.latched,
+    }
+}
+
+// NE of a timestamper is latched with the first edge in its FIFO, OF with one that is dropped.
+#[tactic(auto, unfolding(interrupts::specs::Position::latch_one, interrupts::specs::Position::latch_two))]
+fn latch_arrival(latched: u64, arrival: Arrival, ne: Source, of: Source) -> u64
+    ensures { result ≡ latch_two ne (is_first arrival) of (is_dropped arrival) latched }
+{
+    match arrival {
+        Arrival::NoEdge => latched,
+        Arrival::Stored { first } => latch(latched, ne, first),
+        Arrival::Overflow => latch(latched, of, true),
     }
 }
 
@@ -58,17 +107,25 @@ struct Inputs {
     latched: u64,
 }
 
+#[tactic(auto, unfolding(crate::specs::Ticks::inputs_of))]
 fn arrive_inputs(e: Engine, c: Command, latched: u64) -> Inputs
     ensures { result ≡ inputs_of e c latched }
 {
+    // As in most ticks. Without this each FIFO's arrival is worked out, a third more instructions for such a tick.
+    if c.a == 0 && c.b == 0 && c.c == 0 {
+        return Inputs {
+            stored: false,
+            latched,
+        };
+    }
     let one = fifo::arrive(e.fifo1, c.a);
-    let ts1 = latch_two(latched, 5, c.a != 0, one.first, one.overflow);
+    let ts1 = latch_arrival(latched, one, Source::Ts1Ne, Source::Ts1Of);
     let two = fifo::arrive(e.fifo2, c.b);
-    let ts2 = latch_two(ts1, 7, c.b != 0, two.first, two.overflow);
+    let ts2 = latch_arrival(ts1, two, Source::Ts2Ne, Source::Ts2Of);
     let three = fifo::arrive(e.fifo3, c.c);
-    let ts3 = latch_two(ts2, 9, c.c != 0, three.first, three.overflow);
+    let ts3 = latch_arrival(ts2, three, Source::Ts3Ne, Source::Ts3Of);
     Inputs {
-        stored: either(one.stored, either(two.stored, three.stored)),
+        stored: one.is_stored() || two.is_stored() || three.is_stored(),
         latched: ts3,
     }
 }
@@ -76,51 +133,46 @@ fn arrive_inputs(e: Engine, c: Command, latched: u64) -> Inputs
 // An accepted tick, from the record before it: steering, then outputs, then inputs.
 fn cycle(e: Engine, c: Command) -> Change
     requires { Ticks e c }
-    ensures { result ≡ change_to 0 (tick_values e) (tick_engine e c) (stores_any e c) }
+    ensures { result ≡ change_to (tick_values e) (tick_engine e c) (stores_any e c) }
 {
     let steered = clock::steer(e.steering);
     let step = clock::step_by(e.clock, steered.amount);
     let next = clock::tick_clock(e.clock, steered.amount, step);
-    let tac = latch(e.interrupts.latched, 0, steered.last);
-    let outputs = advance_outputs(e, next, step, tac);
+    let tac = latch(e.interrupts.latched, Source::Tac, steered.last);
+    let outputs = advance_outputs(e.generator1, e.generator2, e.clock, next, step, tac);
     let inputs = arrive_inputs(e, c, outputs.latched);
-    let values = outputs.values;
-    let steering = steered.steering;
-    let generator1 = outputs.generator1;
-    let generator2 = outputs.generator2;
-    let words = e.words;
     Change {
-        answer: 0,
-        values: values,
+        values: outputs.values,
         clock: next,
-        steering: steering,
-        generator1: generator1,
-        generator2: generator2,
+        steering: steered.steering,
+        generator1: outputs.generator1,
+        generator2: outputs.generator2,
         interrupts: Interrupts {
             latched: inputs.latched,
-            enabled: e.interrupts.enabled,
+            ..e.interrupts
         },
-        words: words,
+        words: e.words,
         moves: inputs.stored,
     }
 }
 
 // Op 0 on a valid record: numbers 6 and 15, then the tick.
-pub fn tick(e: Engine, c: Command) -> Change
+pub fn tick(e: Engine, c: Command) -> Result<Change, Refusal>
     requires e_value { valid e ≡ true }
     requires op_value { c.op ≡ 0 }
     ensures { Gives e c (execute e c) result }
 {
-    if fields::tick_fields(c) {
-        if clock::has_time_left(e.clock, e.steering) {
-            return cycle(e, c);
-        }
-        return change_to(15, no_words(), e, false);
+    if !fields::tick_fields(c) {
+        return Err(Refusal::Fields);
     }
-    change_to(6, no_words(), e, false)
+    if !clock::has_time_left(e.clock, e.steering) {
+        return Err(Refusal::TimeOver);
+    }
+    Ok(cycle(e, c))
 }
 
-// The timestamps of a tick's inputs, stored in the record before it.
+// The timestamps of a tick's inputs, stored in the record before it: all worked out first, since one by one in their
+// places each would be copied once more.
 pub fn store_timestamps(mut e: Engine, c: Command) -> Engine
     requires { Ticks e c }
     ensures { result ≡ timestamps_stored e c }

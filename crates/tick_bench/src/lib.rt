@@ -8,34 +8,30 @@ ghost use Rattle.model.specs.Run.{engine_after};
 ghost use Rattle.tick_bench.specs.Ticks.{Still, Gave, beforehand, tick_of, TicksTo, ticks, start_of, seen};
 
 use model::{Command, Engine};
+use tick_lines::command_of;
 
 // The record after a command that is no tick and moves no FIFO.
 fn give(e: Engine, c: Command) -> Engine
     requires { Still e c }
     ensures { Gave e c result }
 {
-    let m = engine::other(e, c);
-    change::apply(e, m)
+    match engine::other(e, c) {
+        Ok(m) => change::apply(e, m),
+        Err(_) => e,
+    }
 }
 
-// The record with the commands given.
+// The record with the commands given, each written as a line of a sheet.
 fn prepared(cycles: u64, edges: u64) -> Engine
     ensures { result ≡ engine_after (beforehand cycles edges) }
 {
-    let on = engine::power_on();
     let loaded = give(
-        on,
-        tick_lines::command_of([1, 0, cycles, 0, 0, 1920, 0, 0, 0]),
+        engine::power_on(),
+        command_of([1, 0, cycles, 0, 0, 1920, 0, 0, 0]),
     );
-    let steered = give(loaded, tick_lines::command_of([2, 2, 8, 0, 0, 0, 0, 0, 0]));
-    let one = give(
-        steered,
-        tick_lines::command_of([3, 1, 0, 3, 256, 1, 3, edges, 1]),
-    );
-    give(
-        one,
-        tick_lines::command_of([3, 2, 0, 5, 300, 6, 7, edges, 1]),
-    )
+    let steered = give(loaded, command_of([2, 2, 8, 0, 0, 0, 0, 0, 0]));
+    let one = give(steered, command_of([3, 1, 0, 3, 256, 1, 3, edges, 1]));
+    give(one, command_of([3, 2, 0, 5, 300, 6, 7, edges, 1]))
 }
 
 // The record after ticks, and the bits of every answer and code told on the way, so that none is left out.
@@ -45,37 +41,38 @@ struct Run {
     told: u64,
 }
 
-// So many ticks more with a code on each input. A record that fails its check, which none does, would end them.
-fn ticked(from: Run, code: u64, n: u64, checked: bool) -> Run
-    requires { valid from.engine ≡ true }
-    ensures { TicksTo from (tick_of code) n result }
+// One tick more.
+#[inline]
+fn turn(run: Run, c: Command) -> Run
+    requires valid { valid run.engine ≡ true }
+    requires op { c.op ≡ 0 }
+    ensures { TicksTo run c 1 result }
 {
-    let c = tick_lines::command_of([0, code, code, code, 0, 0, 0, 0, 0]);
-    let mut e = from.engine;
-    let mut told = from.told;
-    let mut i: u64 = 0;
-    while i < n {
-        if checked {
-            if !validity::is_valid(e) {
-                return Run {
-                    engine: e,
-                    told: told,
-                };
-            }
-        }
-        let m = tick::tick(e, c);
-        if m.moves {
-            e = tick::store_timestamps(e, c);
-        }
-        e = change::apply(e, m);
-        let values = m.values;
-        told = told | m.answer | values.w1 | values.w2;
-        i += 1;
+    match tick::tick(run.engine, c) {
+        Ok(m) => Run {
+            engine: engine::settle(run.engine, c, m),
+            told: run.told | m.values.w1 | m.values.w2,
+        },
+        Err(refusal) => Run {
+            told: run.told | refusal.number(),
+            ..run
+        },
     }
-    Run {
-        engine: e,
-        told: told,
+}
+
+// So many ticks more with a code on each input. A record that fails its check, which none does, would end them.
+fn ticked(mut run: Run, code: u64, n: u64, checked: bool) -> Run
+    requires { valid run.engine ≡ true }
+    ensures { TicksTo run (tick_of code) n result }
+{
+    let c = command_of([0, code, code, code, 0, 0, 0, 0, 0]);
+    for _ in 0..n {
+        if checked && !validity::is_valid(run.engine) {
+            return run;
+        }
+        run = turn(run, c);
     }
+    run
 }
 
 // After these commands and so many ticks with an edge on each input, n ticks with a code on each, the record checked
@@ -95,7 +92,5 @@ pub fn tick_bench_ticks(
         told: 0,
     };
     let end = ticked(ticked(start, 16, stamps, false), code, n, checked == 1);
-    let last = end.engine;
-    let clock = last.clock;
-    clock.nanoseconds | end.told
+    end.engine.clock.nanoseconds | end.told
 }

@@ -1,23 +1,24 @@
 -- A value that is taken goes into its place, and the front of what is left, with the numbers before it, is the front
 -- of the whole line; a part that is no value ends it.
 use Prim.Native.Nat.{ℕ, suc, ◌+◌, ◌≤◌, ◌<◌}
-use mathlib.Core.Path.{◌≡◌, refl, ap, ◌∙◌}
+use mathlib.Core.Path.{◌≡◌, refl, sym, ap, ◌∙◌}
 use mathlib.Core.Bool.{Bool, true, false, cond}
 use mathlib.Core.List.{List, [], ◌∷◌, ◌++◌, append_assoc, append-nil}
 use native.Mathlib.Numerals.{add-one}
 use native.Mathlib.Decide.{dec_lt}
 use native.Mathlib.Omega.{arith}
-use lib.ListN.{length, take, drop, get_or, set, length-set, take-append-drop, drop_of_length-le}
+use lib.Dec.{ltb}
+use lib.ListN.{length, take, drop, get_or, set, length-set, length-drop, take-append-drop, drop_of_length-le}
 use lib.Seq.{take-suc-set, drop-set-lt, drop-cons, take_all}
 use borrow.Author.Tests.{lt-ltb, ltb-true}
-use Rattle.text.specs.declared.Value.{Value}
-use Rattle.text.specs.Text.{comma, number_of, is_value, no_value, value_of, parts, first_part}
+use Rattle.std.specs.Prelude.{Some, None}
+use Rattle.text.specs.Text.{comma, number_of, is_value, value_of, parts, first_part}
 use Rattle.text.proofs.Laws.Splits.{parts_some}
 use Rattle.values.specs.declared.Taken.{Taken}
-use Rattle.values.specs.Taking.{TakenAt}
+use Rattle.values.specs.Taking.{TakenFrom}
 use Rattle.values.specs.Fronts.{Found, with_first, front_in}
 use Rattle.text.proofs.Laws.FirstPart.{parts_last, parts_more}
-use Rattle.digits.proofs.Values.{value_test, value_number}
+use Rattle.digits.proofs.Values.{value_some, value_none}
 
 -- numbers in the first places, before what is found for the others
 abbrev ahead : List ℕ → Found → Found
@@ -48,56 +49,56 @@ pub record Filled (s ns₀ ns : List ℕ) (at k : ℕ) : Type 0 where
 pub front_start : (s ns : List ℕ) → Filled s ns ns 0 0
 front_start s ns = record { few = omega arith; same = refl; inside = omega arith; whole = refl }
 
--- what is a value has passed the test
-value_there : {r : Value} (t : Bool) (v : Value) → r ≡ cond t v no_value → r.ok ≡ true → t ≡ true
-value_there true v e h = refl
-value_there false v e h = rw e at h
-
 -- the next part
-module _ {s : List ℕ} {at : ℕ} {r : Taken} (taken : TakenAt s at r) where
-  taken_value : r.end < length s → r.value ≡ value_of (first_part comma (drop at s))
+module _ (s : List ℕ) (at : ℕ) {r : Taken} (taken : TakenFrom (drop at s) r) where
+  taken_value : r.end < length (drop at s) → r.value ≡ value_of (first_part comma (drop at s))
   taken_value more = rw (lt-ltb _ _ more) at taken.value
 
-  taken_parts : r.end < length s
-      → parts comma (drop at s) ≡ first_part comma (drop at s) ∷ parts comma (drop (r.end + 1) s)
-  taken_parts more = rw taken.end (parts_more comma s at _ refl (omega (arith, taken.end)))
+  taken_parts : r.end < length (drop at s)
+      → parts comma (drop at s) ≡ first_part comma (drop at s) ∷ parts comma (drop (at + (r.end + 1)) s)
+  taken_parts more =
+      let next : at + (r.end + 1) ≡ at + r.end + 1 = omega arith in
+      rw (next, taken.end) (parts_more comma s at _ refl (omega (arith, taken.end, length-drop at s)))
 
-  pub taken_inside : r.value.ok ≡ true → r.end < length s
-  taken_inside h = ltb-true _ _ (value_there _ _ taken.value h)
+  pub taken_inside : (n : ℕ) → r.value ≡ Some n → r.end < length (drop at s)
+  taken_inside n h = by (ltb r.end (length (drop at s))) refl (sym taken.value ∙ h)
+    where
+      by : (t : Bool) → ltb r.end (length (drop at s)) ≡ t
+          → cond t (value_of (first_part comma (drop at s))) None ≡ Some n
+          → r.end < length (drop at s)
+      by true e h = ltb-true _ _ e
+      by false e h = cc
 
   module _ {ns₀ ns : List ℕ} {k : ℕ} (to : Filled s ns₀ ns at k) (l : k < length ns) where
-    pub front_on : r.value.ok ≡ true → Filled s ns₀ (set ns k r.value.number) (r.end + 1) (k + 1)
-    front_on h =
-        let more = taken_inside h in
+    pub front_on : (n : ℕ) → r.value ≡ Some n → Filled s ns₀ (set ns k n) (at + (r.end + 1)) (k + 1)
+    front_on n h =
+        let more = taken_inside n h in
         let p = first_part comma (drop at s) in
-        let rest = parts comma (drop (r.end + 1) s) in
-        let v = r.value.number in
-        let there = taken_value more in
+        let from = at + (r.end + 1) in
+        let rest = parts comma (drop from s) in
+        let value = value_some p n (sym (taken_value more) ∙ h) in
         let turn =
-        front_value (get_or ns k 0) (drop (suc k) ns) at p rest v (r.end + 1)
-        (parts_some comma (drop (r.end + 1) s)) (value_test p r.value there true h)
-        (value_number p r.value there h) (ap (λ n. n + 1) taken.end) in
+        front_value (get_or ns k 0) (drop (suc k) ns) at p rest n from (parts_some comma (drop from s)) value.0
+        (sym value.1) (omega (arith, taken.end)) in
         record {
           few = rw length-set (omega arith);
           same = rw length-set to.same;
-          inside = omega arith;
-          whole = rw (add-one k, take-suc-set ns k v l, drop-set-lt (suc k) ns k v (omega arith)) (
-              ahead_first (take k ns) v (front_in (drop (suc k) ns) (r.end + 1) rest)
+          inside = omega (arith, length-drop at s);
+          whole = rw (add-one k, take-suc-set ns k n l, drop-set-lt (suc k) ns k n (omega arith)) (
+              ahead_first (take k ns) n (front_in (drop (suc k) ns) from rest)
               ∙ ap (ahead (take k ns)) turn
               ∙ (rw (taken_parts more, drop-cons ns k 0 l) at to.whole));
         }
 
-    pub front_stop : r.value.ok ≡ false
-        → record { ok = false; numbers = ns; end = at } ≡ front_in ns₀ 0 (parts comma s)
+    pub front_stop : r.value ≡ None → record { ok = false; numbers = ns; end = at } ≡ front_in ns₀ 0 (parts comma s)
     front_stop h =
-        let rest = parts comma (drop (r.end + 1) s) in
+        let rest = parts comma (drop (at + (r.end + 1)) s) in
         let none : front_in (drop k ns) at (parts comma (drop at s))
         ≡ record { ok = false; numbers = drop k ns; end = at } =
-        rw (drop-cons ns k 0 l) (elim (dec_lt r.end (length s)) [
+        rw (drop-cons ns k 0 l) (elim (dec_lt r.end (length (drop at s))) [
           | yes more ↦
-              rw (taken_parts more)
-              (front_no_value _ _ at _ rest (value_test _ r.value (taken_value more) false h))
-          | no last ↦ rw (parts_last comma s at _ refl (omega (arith, taken.end))) refl
+              rw (taken_parts more) (front_no_value _ _ at _ rest (value_none _ (sym (taken_value more) ∙ h)))
+          | no last ↦ rw (parts_last comma s at _ refl (omega (arith, taken.end, length-drop at s))) refl
         ]) in
         rw (none, take-append-drop) at to.whole
 

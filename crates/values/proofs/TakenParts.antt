@@ -1,66 +1,66 @@
--- The value at an index is what the text up to the next comma reads as. A digit is no comma, so one digit or two with
+-- The value at the front is what the text up to the next comma reads as. A digit is no comma, so one digit or two with
 -- a comma behind them are this text, and their number is its value.
-use mathlib.Core.Path.{◌≡◌, refl}
-use mathlib.Core.Bool.{true}
-use mathlib.Core.List.{List}
-use Prim.Native.Nat.{ℕ, suc, ◌+◌, ◌-◌, ◌≤◌, ◌<◌}
-use native.Mathlib.Numerals.{add-one}
-use native.Mathlib.Nat.{add-sub_cancel_left}
+use mathlib.Core.Path.{◌≡◌, refl, sym, ap, ◌∙◌}
+use mathlib.Core.List.{List, [], ◌∷◌}
+use Prim.Native.Nat.{ℕ, ◌+◌, ◌/◌, ◌%◌, ◌≤◌, ◌<◌}
 use native.Mathlib.Omega.{arith}
-use lib.ListN.{length, take, drop}
-use lib.Seq.{drop-cons}
-use borrow.Author.Tests.{lt-ltb, le-ltb}
-use Rattle.text.specs.declared.Value.{Value}
-use Rattle.text.specs.Text.{comma, no_value, value_of}
-use Rattle.values.specs.Taking.{RunTo, DigitAt, TwoAt, TakenAt}
-use Rattle.text.proofs.Laws.FirstPart.{first_here, first_on, first_is}
+use lib.ListN.{length, get_or, take}
+use borrow.Author.Tests.{lt-ltb, le-ltb, eq-eqb, ne_eqb}
+use Rattle.std.specs.Prelude.{Option, Some, None}
+use Rattle.text.specs.Text.{comma, value_of}
+use Rattle.text.proofs.Laws.FirstPart.{first_take}
 use Rattle.digits.proofs.DigitByDigit.{digit_value, two_digits_value}
+use Rattle.values.specs.Taking.{RunTo, TakenFrom}
 
 -- the run up to the next comma, or up to the end of the text
-module _ {s : List ℕ} {at n : ℕ} (run : RunTo comma at s n) where
-  pub taken_run : {r : Value} → at + n < length s → r ≡ value_of (take (at + n - at) (drop at s))
-      → TakenAt s at (record { value = r; end = at + n })
-  taken_run more e = record {
-    value = rw (lt-ltb (at + n) (length s) more, ← first_is comma s at n run.is) e;
-    end = rw (← run.is) refl;
-  }
+pub taken_run : {s : List ℕ} {n : ℕ} {v : Option ℕ} → RunTo comma s n → n < length s → v ≡ value_of (take n s)
+    → TakenFrom s (record { value = v; end = n })
+taken_run {s} {n} run more is = record {
+  value = rw (lt-ltb n (length s) more) (is ∙ ap value_of (rw run.is (sym (first_take comma s))));
+  end = run.is;
+}
 
-  pub taken_cut : length s ≤ at + n → TakenAt s at (record { value = no_value; end = at + n })
-  taken_cut cut = record { value = rw (le-ltb (at + n) (length s) cut); end = rw (← run.is) refl }
+pub taken_cut : {s : List ℕ} {n : ℕ} → RunTo comma s n → n ≡ length s → TakenFrom s (record { value = None; end = n })
+taken_cut {s} {n} run cut = record { value = rw (le-ltb n (length s) (omega arith)); end = run.is }
 
 -- one digit before a comma
-module _ {s : List ℕ} {at digit : ℕ} (one : DigitAt s at digit) (small : digit < 10) where
-  digit_run : RunTo comma at s 1
-  digit_run =
-      let on = first_on comma s at (omega arith) (λ e. omega arith) in
-      let here = first_here comma s (at + 1) one.within one.behind in
-      record { is = omega arith; within = omega arith }
-
-  digit_read : record { ok = true; number = digit } ≡ value_of (take (at + 1 - at) (drop at s))
-  digit_read = rw (add-sub_cancel_left, drop-cons s at 0 (omega arith), one.byte) (digit_value digit small)
-
-  pub taken_digit : TakenAt s at (record { value = record { ok = true; number = digit }; end = at + 1 })
-  taken_digit = taken_run digit_run one.within digit_read
+pub taken_digit : (s : List ℕ) (digit : ℕ) → 2 ≤ length s → get_or s 0 0 ≡ 48 + digit → digit < 10
+    → get_or s 1 0 ≡ comma
+    → TakenFrom s (record { value = Some digit; end = 1 })
+taken_digit [] digit more byte small behind = absurd (omega arith)
+taken_digit (b ∷ []) digit more byte small behind = absurd (omega arith)
+taken_digit (b ∷ c ∷ s) digit more byte small behind =
+    let no : b ≡ comma → ⊥ = (λ e. omega arith) in
+    let inside : 1 < length (b ∷ c ∷ s) = omega arith in
+    record {
+      value =
+          rw (ne_eqb b comma no, eq-eqb c comma behind, lt-ltb 1 (length (b ∷ c ∷ s)) inside, byte)
+          (digit_value digit small);
+      end = rw (ne_eqb b comma no, eq-eqb c comma behind) refl;
+    }
 
 -- two digits before a comma
-module _ {s : List ℕ} {at n : ℕ} (two : TwoAt s at n) (small : n < 100) where
-  two_run : RunTo comma at s 2
-  two_run =
-      let on = first_on comma s at (omega arith) (λ e. omega arith) in
-      let next : at + 1 + 1 ≡ at + 2 = omega arith in
-      let further = rw next at (first_on comma s (at + 1) (omega arith) (λ e. omega arith)) in
-      let here = first_here comma s (at + 2) two.within two.behind in
-      record { is = omega arith; within = omega arith }
-
-  two_read : record { ok = true; number = n } ≡ value_of (take (at + 2 - at) (drop at s))
-  two_read =
-      rw (
-        add-sub_cancel_left,
-        drop-cons s at 0 (omega arith),
-        drop-cons s (suc at) 0 (omega arith),
-        two.tens,
-        (rw add-one at two.units),
-      ) (two_digits_value n two.some small)
-
-  pub taken_two : TakenAt s at (record { value = record { ok = true; number = n }; end = at + 2 })
-  taken_two = taken_run two_run two.within two_read
+pub taken_two : (s : List ℕ) (n : ℕ) → 3 ≤ length s → get_or s 0 0 ≡ 48 + n / 10 → get_or s 1 0 ≡ 48 + n % 10
+    → 10 ≤ n
+    → n < 100
+    → get_or s 2 0 ≡ comma
+    → TakenFrom s (record { value = Some n; end = 2 })
+taken_two [] n more tens units some small behind = absurd (omega arith)
+taken_two (b ∷ []) n more tens units some small behind = absurd (omega arith)
+taken_two (b ∷ c ∷ []) n more tens units some small behind = absurd (omega arith)
+taken_two (b ∷ c ∷ d ∷ s) n more tens units some small behind =
+    let no : b ≡ comma → ⊥ = (λ e. omega arith) in
+    let no2 : c ≡ comma → ⊥ = (λ e. omega arith) in
+    let inside : 2 < length (b ∷ c ∷ d ∷ s) = omega arith in
+    record {
+      value =
+          rw (
+            ne_eqb b comma no,
+            ne_eqb c comma no2,
+            eq-eqb d comma behind,
+            lt-ltb 2 (length (b ∷ c ∷ d ∷ s)) inside,
+            tens,
+            units,
+          ) (two_digits_value n some small);
+      end = rw (ne_eqb b comma no, ne_eqb c comma no2, eq-eqb d comma behind) refl;
+    }

@@ -1,8 +1,7 @@
 -- The front of a line: its first values, as many as there are places for their numbers, each with a part behind it.
 -- Document 01, "Command sheet".
-use Rattle.std.specs.Prelude.{ℕ, ◌+◌, ◌≡◌, List, [], ◌∷◌, Bool, true, false, cond, length}
+use Rattle.std.specs.Prelude.{ℕ, ◌+◌, ◌≡◌, List, [], ◌∷◌, Bool, true, false, cond, length, Result, Ok, Err}
 use Rattle.text.specs.Text.{comma, number_of, is_value, parts}
-use Rattle.values.specs.declared.Front.{Front}
 
 -- whether each place has its number, the numbers in the places, and the index behind the last comma that was passed
 pub record Found : Type 0 where
@@ -26,9 +25,10 @@ front_in (n ∷ ns) at (p ∷ q ∷ ps) =
     (record { ok = false; numbers = n ∷ ns; end = at })
 
 -- what a reader has found, with these numbers left in the places
-abbrev pub front_to : List ℕ → Front → Found
-front_to ns r = record { ok = r.ok; numbers = ns; end = r.end }
+abbrev pub front_to : List ℕ → Result ℕ ℕ → Found
+front_to ns (Ok end) = record { ok = true; numbers = ns; end = end }
+front_to ns (Err end) = record { ok = false; numbers = ns; end = end }
 
 -- it is the front of the line s
-abbrev pub FrontOf : (s places ns : List ℕ) → Front → Type 0
+abbrev pub FrontOf : (s places ns : List ℕ) → Result ℕ ℕ → Type 0
 FrontOf s places ns r = front_to ns r ≡ front_in places 0 (parts comma s)

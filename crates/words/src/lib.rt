@@ -13,6 +13,7 @@ use bits::{field, join};
 use model::{Adjustment, Words};
 
 // Write 0, TIME: sec 15:0 | 31:16 | 47:32 | NS 15:0 | NS 29:16.
+#[tactic(auto, unfolding(model::specs::Words::seconds_in))]
 pub fn seconds_in(w: Words) -> u64
     requires { WordsRange w }
     ensures { result ≡ seconds_in w }
@@ -20,6 +21,7 @@ pub fn seconds_in(w: Words) -> u64
     join(join(w.w3, w.w2, 16), w.w1, 16)
 }
 
+#[tactic(auto, unfolding(model::specs::Words::nanoseconds_in))]
 pub fn nanoseconds_in(w: Words) -> u64
     requires { WordsRange w }
     ensures { result ≡ nanoseconds_in w }
@@ -28,6 +30,7 @@ pub fn nanoseconds_in(w: Words) -> u64
 }
 
 // Word 5, bits 15:14.
+#[tactic(auto, unfolding(model::specs::Words::above_nanoseconds))]
 pub fn above_nanoseconds(w: Words) -> u64
     ensures { result ≡ above_nanoseconds w }
 {
@@ -35,12 +38,14 @@ pub fn above_nanoseconds(w: Words) -> u64
 }
 
 // Writes 1 and 2: - | .. | FRAC 7:0, .. | FRAC 23:8 | NS 7:0, FRAC 31:24.
+#[tactic(auto, unfolding(model::specs::Words::whole_in))]
 pub fn whole_in(w: Words) -> u64
     ensures { result ≡ whole_in w }
 {
     w.w5 >> 8
 }
 
+#[tactic(auto, unfolding(model::specs::Words::frac_in))]
 fn frac_in(w: Words) -> u64
     requires { WordsRange w }
     ensures { result ≡ frac_in w }
@@ -49,6 +54,7 @@ fn frac_in(w: Words) -> u64
 }
 
 // NS above FRAC.
+#[tactic(auto, unfolding(model::specs::Words::amount_in, model::specs::Words::whole_in, model::specs::Words::frac_in))]
 pub fn amount_in(w: Words) -> u64
     requires { WordsRange w }
     ensures { result ≡ amount_in w }
@@ -57,6 +63,7 @@ pub fn amount_in(w: Words) -> u64
 }
 
 // The low byte of word 3.
+#[tactic(auto, unfolding(model::specs::Words::below_frac))]
 pub fn below_frac(w: Words) -> u64
     ensures { result ≡ below_frac w }
 {
@@ -64,6 +71,7 @@ pub fn below_frac(w: Words) -> u64
 }
 
 // Write 2: - | COUNT 15:0 | .., COUNT 23:16 | ..
+#[tactic(auto, unfolding(model::specs::Words::count_in))]
 pub fn count_in(w: Words) -> u64
     requires { WordsRange w }
     ensures { result ≡ count_in w }
@@ -83,6 +91,7 @@ pub fn adjustment_in(w: Words) -> Adjustment
 }
 
 // Reads: sec 15:0 | 31:16 | 47:32 | NS 15:0 | EDGE, 0, NS 29:16.
+#[tactic(auto, unfolding(model::specs::Words::time_words))]
 pub fn time_words(seconds: u64, nanoseconds: u64, edge: u64) -> Words
     requires { edge ≤ 1 }
     ensures { result ≡ time_words seconds nanoseconds edge }
@@ -99,11 +108,5 @@ pub fn time_words(seconds: u64, nanoseconds: u64, edge: u64) -> Words
 pub fn no_words() -> Words
     ensures { result ≡ no_words }
 {
-    Words {
-        w1: 0,
-        w2: 0,
-        w3: 0,
-        w4: 0,
-        w5: 0,
-    }
+    Words::default()
 }

@@ -1,38 +1,33 @@
-// Writing into a lent buffer: fixed texts, and rows of numbers. Each function writes one text at an index, leaves every
-// other byte as it was, and returns the index behind the text. Document 01, "Command sheet".
+// Fixed texts and rows of numbers, through a writer into a lent buffer. Document 01, "Command sheet".
 #![tactic(auto)]
 
-ghost use Rattle.std.specs.Prelude.{◌+◌, ◌<◌, ◌≤◌, length};
 ghost use Rattle.text.specs.Text.{row};
-ghost use Rattle.numerals.specs.Written.{Written};
+ghost use Rattle.numerals.specs.Written.{HasRoom, AppendsText};
 
-use numerals::{put_byte, put_number};
+use numerals::TextWriter;
 
 // A fixed text.
-pub fn put_bytes(out: &mut [u8], at: usize, text: &[u8]) -> usize
-    requires { at + length text.now ≤ length out.old }
-    ensures { Written out.old out.new at text.now result }
+pub fn put_bytes(writer: &mut TextWriter<'_>, text: &[u8])
+    requires { HasRoom writer.old text.now }
+    ensures { AppendsText writer.old writer.new text.now }
 {
-    let mut i = 0;
-    while i < text.len() {
-        out[at + i] = text[i];
-        i += 1;
-    }
-    at + i
+    let start = writer.end;
+    writer.end += text.len();
+    let out = &mut *writer.out;
+    out[start..writer.end].copy_from_slice(text);
 }
 
 // A line of numbers with commas between them.
-pub fn put_row(out: &mut [u8], at: usize, numbers: &[u64]) -> usize
-    requires numbers_nonzero { 0 < length numbers.now }
-    requires numbers_in_bounds { at + length (row numbers.now) ≤ length out.old }
-    ensures { Written out.old out.new at (row numbers.now) result }
+pub fn put_row(writer: &mut TextWriter<'_>, numbers: &[u64])
+    requires { HasRoom writer.old (row numbers.now) }
+    ensures { AppendsText writer.old writer.new (row numbers.now) }
 {
-    let mut end = put_number(out, at, numbers[0]);
-    let mut i = 1;
-    while i < numbers.len() {
-        end = put_byte(out, end, 44);
-        end = put_number(out, end, numbers[i]);
-        i += 1;
+    if let Some((&first, others)) = numbers.split_first() {
+        writer.put_number(first);
+        for &n in others {
+            writer.put_byte(b',');
+            writer.put_number(n);
+        }
     }
-    put_byte(out, end, 10)
+    writer.put_byte(b'\n');
 }

@@ -12,7 +12,3 @@ ends_in_time-requires c =
     let p = c.requires in
     let amount = cycle_amount_in _ p.1 in
     (p.0, rw (c.step_by.ensures, c.cycle_amount.ensures) (step_bounds _ _ p.0.remainder amount).1)
-
-pub returns : goal.returns
-returns c =
-    simp (c.ends_in_time.ensures, c.step_by.ensures, c.cycle_amount.ensures)

@@ -2,15 +2,15 @@
 use Rattle.std.proofs.Common.{sym, ◌∙◌}
 use Rattle.model.specs.Departure.{stays_signed}
 use Rattle.model.proofs.Laws.Departures.{clock_range, departure_low}
-use mathlib.Core.Path.{sym, ◌∙◌}
+use Rattle.change.proofs.Given.{handed_on}
 use Rattle.departure.proofs.Checked.{depart_unlisted, depart_left, depart_gives}
 use Rattle.departure.proofs.depart.Goals as goal
 
-pub returns-then-not-depart_fields : goal.returns-then-not-depart_fields
-returns-then-not-depart_fields c =
-    rw c.refused.ensures
-    (depart_unlisted _ _ c.requires.e_value c.requires.op_value
-    (sym c.depart_fields.ensures ∙ c.if-not-depart_fields.true))
+pub returns-in_err-ensure : goal.returns-in_err-ensure
+returns-in_err-ensure c =
+    let f = c.in_err-ensure.ensures in
+    handed_on _ _ c.from_residual.ensures.1 f.refused
+    (depart_unlisted _ _ c.requires.e_value c.requires.op_value (sym (f.passed ∙ c.depart_fields.ensures)))
 
 pub departure-added-requires : goal.departure-added-requires
 departure-added-requires c = clock_range _ c.requires.e_value
@@ -19,23 +19,19 @@ pub stays_signed-requires : goal.stays_signed-requires
 stays_signed-requires c =
     rw c.departure-added.ensures (departure_low _ (clock_range _ c.requires.e_value))
 
-pub returns-then-stays_signed : goal.returns-then-stays_signed
+pub returns-in_err-ensure-2 : goal.returns-in_err-ensure-2
 unfolding stays_signed
-returns-then-stays_signed c =
-    let listed = sym c.depart_fields.ensures ∙ c.if-not-depart_fields.false in
-    let stays = sym c.stays_signed.ensures ∙ c.if-stays_signed.true in
-    rw (
-      c.change_to.ensures,
-      c.four_words-words.ensures,
-      c.wrapping_add_u64.ensures.value,
-      c.departure-added.ensures,
-    )
-    (depart_gives _ _ c.requires.e_value c.requires.op_value listed (rw c.departure-added.ensures at stays))
+returns-in_err-ensure-2 c =
+    let f = c.in_err-ensure-2.ensures in
+    let listed = sym (c.in_ok-ensure.ensures.passed ∙ c.depart_fields.ensures) in
+    let stays = sym (f.passed ∙ c.stays_signed.ensures) in
+    handed_on _ _ c.from_residual-in_err-ensure-2.ensures.1 f.refused
+    (depart_left _ _ c.requires.e_value c.requires.op_value listed (rw c.departure-added.ensures at stays))
 
 pub returns : goal.returns
 unfolding stays_signed
 returns c =
-    let listed = sym c.depart_fields.ensures ∙ c.if-not-depart_fields.false in
-    let stays = sym c.stays_signed.ensures ∙ c.if-stays_signed.false in
-    rw c.refused-2.ensures
-    (depart_left _ _ c.requires.e_value c.requires.op_value listed (rw c.departure-added.ensures at stays))
+    let listed = sym (c.in_ok-ensure.ensures.passed ∙ c.depart_fields.ensures) in
+    let stays = sym (c.in_ok-ensure-2.ensures.passed ∙ c.stays_signed.ensures) in
+    rw (c.change_to.ensures, c.four_words-words.ensures, c.departure-added.ensures)
+    (depart_gives _ _ c.requires.e_value c.requires.op_value listed (rw c.departure-added.ensures at stays))

@@ -2,6 +2,5 @@
 use Rattle.engine.proofs.Steps.{settled_stepped}
 use Rattle.engine.proofs.step.Goals as goal
 
-pub returns : goal.returns
-returns c =
-    settled_stepped _ _ _ _ c.requires c.change_by-m.ensures c.settle.ensures
+pub returns-in-Ok : goal.returns-in-Ok
+returns-in-Ok c = settled_stepped _ _ _ _ c.requires c.in-Ok.ensures c.settle.ensures

@@ -1,47 +1,58 @@
--- One arm for each row of the table of lists, and one for what is past them.
+-- An op stands in the row of the table of lists that its number says; what names none is past them.
 use mathlib.Core.Path.{◌∙◌}
 use native.Mathlib.Omega.{arith}
 use Rattle.model.proofs.Laws.Listed.{fields_of, fields_past}
+use Rattle.op.proofs.Numbered.{named}
 use Rattle.fields.proofs.fields_ok.Goals as goal
 
-pub returns-in-0 : goal.returns-in-0
-returns-in-0 c = c.tick_fields.ensures ∙ fields_of _ 0 c.in-0.is
+pub returns-in-Ok-Tick : goal.returns-in-Ok-Tick
+returns-in-Ok-Tick c = c.tick_fields.ensures ∙ fields_of _ 0 (named c.in-Ok-Tick.ensures c.in-Ok-Tick.field-0-is)
 
-pub returns-in-1 : goal.returns-in-1
-returns-in-1 c = c.load_fields.ensures ∙ fields_of _ 1 c.in-1.is
+pub returns-in-Ok-LoadWords : goal.returns-in-Ok-LoadWords
+returns-in-Ok-LoadWords c =
+    c.load_fields.ensures ∙ fields_of _ 1 (named c.in-Ok-LoadWords.ensures c.in-Ok-LoadWords.field-0-is)
 
-pub returns-in-2 : goal.returns-in-2
-returns-in-2 c = c.command_fields.ensures ∙ fields_of _ 2 c.in-2.is
+pub returns-in-Ok-Command : goal.returns-in-Ok-Command
+returns-in-Ok-Command c =
+    c.command_fields.ensures ∙ fields_of _ 2 (named c.in-Ok-Command.ensures c.in-Ok-Command.field-0-is)
 
-pub returns-in-3 : goal.returns-in-3
-returns-in-3 c = c.arm_fields.ensures ∙ fields_of _ 3 c.in-3.is
+pub returns-in-Ok-Arm : goal.returns-in-Ok-Arm
+returns-in-Ok-Arm c = c.arm_fields.ensures ∙ fields_of _ 3 (named c.in-Ok-Arm.ensures c.in-Ok-Arm.field-0-is)
 
-pub returns-in-4 : goal.returns-in-4
-returns-in-4 c = c.stop_fields.ensures ∙ fields_of _ 4 c.in-4.is
+pub returns-in-Ok-Stop : goal.returns-in-Ok-Stop
+returns-in-Ok-Stop c = c.stop_fields.ensures ∙ fields_of _ 4 (named c.in-Ok-Stop.ensures c.in-Ok-Stop.field-0-is)
 
-pub returns-in-5 : goal.returns-in-5
-returns-in-5 c = c.no_fields.ensures ∙ fields_of _ 5 c.in-5.is
+pub returns-in-Ok-ReadInterrupts : goal.returns-in-Ok-ReadInterrupts
+returns-in-Ok-ReadInterrupts c =
+    c.no_fields.ensures ∙ fields_of _ 5 (named c.in-Ok-ReadInterrupts.ensures c.in-Ok-ReadInterrupts.field-0-is)
 
-pub returns-in-6 : goal.returns-in-6
-returns-in-6 c = c.mask_fields.ensures ∙ fields_of _ 6 c.in-6.is
+pub returns-in-Ok-SetMask : goal.returns-in-Ok-SetMask
+returns-in-Ok-SetMask c =
+    c.mask_fields.ensures ∙ fields_of _ 6 (named c.in-Ok-SetMask.ensures c.in-Ok-SetMask.field-0-is)
 
-pub returns-in-7 : goal.returns-in-7
-returns-in-7 c = c.no_fields-in-7.ensures ∙ fields_of _ 7 c.in-7.is
+pub returns-in-Ok-ReadStatus : goal.returns-in-Ok-ReadStatus
+returns-in-Ok-ReadStatus c =
+    c.no_fields-in-Ok-ReadStatus.ensures
+    ∙ fields_of _ 7 (named c.in-Ok-ReadStatus.ensures c.in-Ok-ReadStatus.field-0-is)
 
-pub returns-in-8 : goal.returns-in-8
-returns-in-8 c = c.no_fields-in-8.ensures ∙ fields_of _ 8 c.in-8.is
+pub returns-in-Ok-ShowWords : goal.returns-in-Ok-ShowWords
+returns-in-Ok-ShowWords c =
+    c.no_fields-in-Ok-ShowWords.ensures ∙ fields_of _ 8 (named c.in-Ok-ShowWords.ensures c.in-Ok-ShowWords.field-0-is)
 
-pub returns-in-9 : goal.returns-in-9
-returns-in-9 c = c.run_fields.ensures ∙ fields_of _ 9 c.in-9.is
+pub returns-in-Ok-Run : goal.returns-in-Ok-Run
+returns-in-Ok-Run c = c.run_fields.ensures ∙ fields_of _ 9 (named c.in-Ok-Run.ensures c.in-Ok-Run.field-0-is)
 
-pub returns-in-10 : goal.returns-in-10
-returns-in-10 c = c.preview_fields.ensures ∙ fields_of _ 10 c.in-10.is
+pub returns-in-Ok-Preview : goal.returns-in-Ok-Preview
+returns-in-Ok-Preview c =
+    c.preview_fields.ensures ∙ fields_of _ 10 (named c.in-Ok-Preview.ensures c.in-Ok-Preview.field-0-is)
 
-pub returns-in-11 : goal.returns-in-11
-returns-in-11 c = c.depart_fields.ensures ∙ fields_of _ 11 c.in-11.is
+pub returns-in-Ok-Depart : goal.returns-in-Ok-Depart
+returns-in-Ok-Depart c =
+    c.depart_fields.ensures ∙ fields_of _ 11 (named c.in-Ok-Depart.ensures c.in-Ok-Depart.field-0-is)
 
-pub returns-in-12 : goal.returns-in-12
-returns-in-12 c = c.recover_fields.ensures ∙ fields_of _ 12 c.in-12.is
+pub returns-in-Ok-Recover : goal.returns-in-Ok-Recover
+returns-in-Ok-Recover c =
+    c.recover_fields.ensures ∙ fields_of _ 12 (named c.in-Ok-Recover.ensures c.in-Ok-Recover.field-0-is)
 
-pub returns-in_default : goal.returns-in_default
-returns-in_default c = c.no_fields-in_default.ensures ∙ fields_past _ (omega arith)
+pub returns-in-Err : goal.returns-in-Err
+returns-in-Err c = c.no_fields-in-Err.ensures ∙ fields_past _ c.in-Err.ensures.0

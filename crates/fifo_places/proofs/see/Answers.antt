@@ -54,7 +54,7 @@ pub returns-then-used : goal.returns-then-used
 returns-then-used c =
     let test = c in
     let args = test.args in
-    rw (c.either.ensures, test.if-used.true) (one_used args.s args.t)
+    rw test.if-used.true (one_used args.s args.t)
 
 pub returns : goal.returns
 returns c =

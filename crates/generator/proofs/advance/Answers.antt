@@ -1,52 +1,45 @@
--- An edge is due where the generator runs and its instant is below the time after the tick; the code tests no more.
-use mathlib.Core.Path.{sym, ◌∙◌}
-use borrow.Author.Tests.{eq-eqb}
-use Rattle.model.specs.Generator.{placed, generated, completes_event, completes_sequence, is_due}
-use Rattle.generator.specs.Advance.{advance_of}
+-- An idle generator places no edge; a running one is due exactly where its instant is before the time after the tick.
+use Rattle.std.proofs.Common.{◌≡◌, refl, sym, ◌∙◌, ℕ, false}
+use Rattle.std.proofs.lemmas.Bool.{eq-eqb}
+use Rattle.model.specs.declared.Generator.{Generator}
+use Rattle.model.specs.Clock.{shown}
+use Rattle.model.specs.Generator.{is_due}
 use Rattle.model.proofs.Laws.Eighths.{eighth_below_8}
+use Rattle.generator.specs.Advance.{advance_of}
 use Rattle.generator.proofs.Tick.{comparable, running, due, decides}
 use Rattle.generator.proofs.advance.Goals as goal
-
-pub returns-then-g-eq0 : goal.returns-then-g-eq0
-unfolding advance_of placed generated completes_event completes_sequence is_due
-returns-then-g-eq0 c = simp (c.stay.ensures, eq-eqb _ 0 c.if-g-eq0.true)
+use Rattle.generator.proofs.advance.Goals.{then-g-eq0-via-then-g-eq0, then-g-eq0-via-else-g-eq0+then-not-is_before}
 
 pub is_before-requires : goal.is_before-requires
 is_before-requires c = comparable c.requires c.if-g-eq0.false
 
-pub follow-generator-requires : goal.follow-generator-requires
-follow-generator-requires c =
-    let arm = c in
-    running arm.requires arm.if-g-eq0.false
-
 pub eighth-requires : goal.eighth-requires
-eighth-requires c =
-    let arm = c in
-    due arm.requires arm.if-g-eq0.false
-    (sym arm.is_before.ensures ∙ arm.if-is_before.true)
+eighth-requires c = due c.requires c.if-g-eq0.false (sym c.is_before.ensures ∙ c.if-not-is_before.false)
 
-pub edge_code-code-requires : goal.edge_code-code-requires
-edge_code-code-requires c = rw c.eighth.ensures (eighth_below_8 _ _ _)
+pub edge_code-requires : goal.edge_code-requires
+edge_code-requires c = rw c.eighth.ensures (eighth_below_8 _ _ _)
 
-pub returns-then-is_before : goal.returns-then-is_before
-unfolding advance_of placed generated completes_event completes_sequence
-returns-then-is_before c =
-    let coded = c in
-    let arm = coded in
-    simp (
-      coded.edge_code-code.ensures,
-      coded.eighth.ensures,
-      coded.follow-generator.ensures,
-      decides arm.requires
-          arm.if-g-eq0.false (sym arm.is_before.ensures ∙ arm.if-is_before.true),
-    )
+pub follow-requires : goal.follow-requires
+follow-requires c = running c.requires c.if-g-eq0.false
 
-pub returns-else-is_before : goal.returns-else-is_before
-unfolding advance_of placed generated completes_event completes_sequence
-returns-else-is_before c =
-    let arm = c in
-    simp (
-      c.stay-else-is_before.ensures,
-      decides arm.requires arm.if-g-eq0.false
-          (sym arm.is_before.ensures ∙ arm.if-is_before.false),
-    )
+idle : (g : Generator) (a s : ℕ) → g.left ≡ 0 → is_due g a s ≡ false
+unfolding is_due
+idle g a s none = rw (eq-eqb g.left 0 none) refl
+
+pub returns-then-g-eq0 : goal.returns-then-g-eq0
+unfolding advance_of
+returns-then-g-eq0 c =
+    elim c.then-g-eq0.branch [
+      | then-g-eq0-via-then-g-eq0 w ↦ simp (idle c.args.g (shown c.args.k) c.args.step w.if-g-eq0.true)
+      | then-g-eq0-via-else-g-eq0+then-not-is_before w ↦
+          simp (decides c.requires w.if-g-eq0.false (sym w.is_before.ensures ∙ w.if-not-is_before.true))
+    ]
+
+pub returns : goal.returns
+unfolding advance_of
+returns c = simp (
+  c.edge_code.ensures,
+  c.eighth.ensures,
+  c.follow.ensures,
+  decides c.requires c.if-g-eq0.false (sym c.is_before.ensures ∙ c.if-not-is_before.false),
+)

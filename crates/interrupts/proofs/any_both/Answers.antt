@@ -1,37 +1,22 @@
--- One source of the table decides or leaves the answer to the others: so while none is found what is left gives it.
-use Prim.Native.Nat.{◌+◌}
-use mathlib.Core.Path.{◌≡◌, sym, ◌∙◌}
-use mathlib.Core.Bool.{Bool, true, false, ◌||◌}
-use native.Mathlib.Omega.{arith}
-use lib.ListN.{drop}
-use borrow.Author.Rules.{rules}
-use Rattle.model.specs.Interrupts.{positions, any_both}
-use Rattle.interrupts.proofs.Turns.{any_turn}
+-- The definition asks one position of the table after the other, as the code does.
+use Rattle.std.proofs.Common.{◌≡◌, refl, ◌∙◌, ℕ, List, [], ◌∷◌, ◌&&◌, ◌||◌, ap, rules, tests}
+use Rattle.std.specs.List.{list_any}
+use Rattle.std.proofs.lemmas.Iterator.{YieldsList-from_slice}
+use Rattle.std.proofs.lemmas.Iterator.Search.{any_from_yields_List}
+use Rattle.model.specs.Interrupts.{has_bit, positions, any_both}
 use Rattle.interrupts.proofs.any_both.Goals as goal
-use Rattle.interrupts.proofs.any_both.Goals.{After-both}
 
-turn : (c : After-both)
-    → (test : Bool)
-    → c.both.result ≡ test
-    → let at = c in
-    let words = at.args in
-    let rest = any_both (drop (at.loop-source.source + 1) positions) words.latched words.enabled in
-    (test || rest) ≡ any_both positions words.latched words.enabled
-turn c test h =
-    let at = c in
-    let words = at.args in
-    let bits = rw (c.both.ensures, c.is_set.ensures, c.is_set-in-loop-source.ensures) at h in
-    sym (any_turn positions words.latched words.enabled at.loop-source.source (search rules) test bits)
-    ∙ at.loop-source.invariant.1
-
-pub returns-then-both : goal.returns-then-both
-returns-then-both c = turn (goal.at.returns-then-both c).After-both true c.if-both.true
-
-pub loop-source-preserved : goal.loop-source-preserved
-loop-source-preserved c = (search rules, turn (goal.at.loop-source-preserved c).After-both false c.if-both.false)
+one_after_another : (latched enabled : ℕ) (ks : List ℕ)
+    → list_any (λ k. has_bit k latched && has_bit k enabled) ks ≡ any_both ks latched enabled
+unfolding any_both
+one_after_another latched enabled [] = refl
+one_after_another latched enabled (k ∷ ks) =
+    ap (λ rest. has_bit k latched && has_bit k enabled || rest) (one_after_another latched enabled ks)
 
 pub returns : goal.returns
-unfolding any_both
 returns c =
-    let end : c.loop-source.source ≡ 11 = omega arith in
-    rw end at c.loop-source.invariant.1
+    let latched = c.args.latched in
+    let enabled = c.args.enabled in
+    any_from_yields_List (λ k. has_bit k latched && has_bit k enabled) _ _ c.any.result c.any.ensures.ran
+    (YieldsList-from_slice positions cc) (λ x b q k. search (rules, tests))
+    ∙ one_after_another latched enabled positions

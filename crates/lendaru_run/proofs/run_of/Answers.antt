@@ -5,4 +5,4 @@ use Rattle.lendaru_run.proofs.run_of.Goals as goal
 
 pub returns-else-is_valid : goal.returns-else-is_valid
 returns-else-is_valid c =
-    rw (c.change_to.ensures, c.no_words.ensures) (malformed_gives _ _ (sym c.is_valid.ensures ∙ c.if-is_valid.false))
+    malformed_gives _ _ (sym c.is_valid.ensures ∙ c.if-is_valid.false)

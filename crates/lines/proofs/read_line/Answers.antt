@@ -1,39 +1,25 @@
 -- The front is that of the line, and what is read behind it is its last part.
-use mathlib.Core.Path.{◌∙◌}
+use mathlib.Core.Path.{sym, ◌∙◌}
 use borrow.Author.Rules.{rules}
-use borrow.Author.Tests.{not-true, not-false}
-use Rattle.lines.proofs.Lines.{EightOf, line_no_front, front_inside, line_last, line_no_last}
+use Rattle.text.proofs.Laws.FirstPart.{rest_is}
+use Rattle.lines.proofs.Lines.{line_no_front, front_inside, line_last, line_no_last}
 use Rattle.lines.proofs.read_line.Goals as goal
-use Rattle.lines.proofs.read_line.Goals.{After-take_values-front}
 
-eight : (c : After-take_values-front)
-    → EightOf c.args.s.now c.take_values-front.new.numbers c.take_values-front.result
-eight c = record { is = c.take_values-front.ensures }
-
-pub returns-then-not-front : goal.returns-then-not-front
-returns-then-not-front c =
-    c.no_line.ensures ∙ line_no_front (eight (goal.at.returns-then-not-front c).After-take_values-front)
-    (not-true _ c.if-not-front.true)
+pub returns-in_default : goal.returns-in_default
+returns-in_default c = line_no_front c.args.s.now c.in_default.ensures
 
 pub slice_bounds-read_value-count : goal.slice_bounds-read_value-count
-slice_bounds-read_value-count c =
-    front_inside (eight (goal.at.slice_bounds-read_value-count c).After-take_values-front)
-    (not-false _ c.if-not-front.false)
+slice_bounds-read_value-count c = front_inside c.args.s.now c.in-Ok.ensures
 
 pub slice_bounds-read_value-start : goal.slice_bounds-read_value-start
-slice_bounds-read_value-start c =
-    let inside = front_inside (eight (goal.at.slice_bounds-read_value-start c).After-take_values-front)
-    (not-false _ c.if-not-front.false) in
-    search rules
+slice_bounds-read_value-start c = let inside = front_inside c.args.s.now c.in-Ok.ensures in search rules
 
-pub returns-then-not-last : goal.returns-then-not-last
-returns-then-not-last c =
-    let front = eight (goal.at.returns-then-not-last c).After-take_values-front in
-    let none = line_no_last front (not-false _ c.if-not-front.false) c.read_value-last.ensures in
-    c.no_line-then-not-last.ensures ∙ none (not-true _ c.if-not-last.true)
+pub returns-in_err-numbers : goal.returns-in_err-numbers
+returns-in_err-numbers c =
+    let read = rw (rest_is c.args.s.now c.in-Ok.at) at c.in_err-numbers.ensures in
+    c.from_residual.ensures ∙ line_no_last c.args.s.now c.in-Ok.ensures (sym read)
 
 pub returns : goal.returns
 returns c =
-    let front = eight (goal.at.returns c).After-take_values-front in
-    let last = line_last front (not-false _ c.if-not-front.false) c.read_value-last.ensures in
-    rw c.command_of.ensures (last (not-false _ c.if-not-last.false))
+    let read = rw (rest_is c.args.s.now c.in-Ok.at) at c.in_ok-numbers.ensures in
+    rw c.command_of.ensures (line_last c.args.s.now c.in-Ok.ensures (sym read))

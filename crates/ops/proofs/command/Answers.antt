@@ -8,18 +8,17 @@ write-now-requires c = words_within _ _ c.requires
 
 pub returns-then-c-eq8 : goal.returns-then-c-eq8
 returns-then-c-eq8 c =
-    rw (c.accepted.ensures, c.no_words.ensures)
+    rw c.silent.ensures
     (written_gives _ _ c.requires _ c.write-now.ensures
     (eq-eqb _ _ c.if-c-eq8.true))
 
-pub read_words-w-requires : goal.read_words-w-requires
-read_words-w-requires c = readable _ _ c.requires (ne_eqb _ _ c.if-c-eq8.false)
+pub read_words-words-requires : goal.read_words-words-requires
+read_words-words-requires c = readable _ _ c.requires (ne_eqb _ _ c.if-c-eq8.false)
 
 pub returns : goal.returns
 returns c =
     rw (
       c.change_to.ensures,
-      c.with_words.ensures,
-      c.read_words-w.ensures,
+      c.read_words-words.ensures,
       c.write-now.ensures,
     ) (read_gives _ _ c.requires (ne_eqb _ _ c.if-c-eq8.false))

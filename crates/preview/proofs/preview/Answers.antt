@@ -1,20 +1,10 @@
 -- The checks above 15, then the ticks.
-use mathlib.Core.Path.{sym, ◌∙◌}
+use mathlib.Core.Path.{refl}
+use Rattle.change.proofs.Given.{handed_on}
 use Rattle.preview.proofs.Checked.{refused_before}
 use Rattle.preview.proofs.preview.Goals as goal
 
-pub show-requires : goal.show-requires
-show-requires c = record {
-  on = c.requires.e_value;
-  op = c.requires.op_value;
-  passed = sym c.refusal_before-early.ensures ∙ c.if-early-eq0.true;
-}
-
-pub returns-then-early-eq0 : goal.returns-then-early-eq0
-returns-then-early-eq0 c = c.show.ensures
-
-pub returns : goal.returns
-returns c =
-    rw (c.change_to.ensures, c.no_words.ensures, c.refusal_before-early.ensures)
-    (refused_before _ _ c.requires.e_value c.requires.op_value
-    (λ z. c.if-early-eq0.false (c.refusal_before-early.ensures ∙ z)))
+pub returns-in_err-check : goal.returns-in_err-check
+returns-in_err-check c =
+    handed_on _ _ c.from_residual.ensures.1 refl
+    (refused_before _ _ c.requires.e_value c.requires.op_value _ c.in_err-check.ensures)

@@ -5,6 +5,7 @@ use native.Mathlib.Omega.{arith}
 use Rattle.model.specs.Elapse.{amount_of}
 use Rattle.model.proofs.Laws.InRange.{valid_parts, clock_in, words_in}
 use Rattle.elapse.specs.Seconds.{in_second}
+use Rattle.change.proofs.Given.{handed_on}
 use Rattle.preview.proofs.Checked.{late_refused, shown_gives}
 use Rattle.preview.proofs.Shown.{tried, asked, seconds_low, after_low, after_is, in_time, shows}
 use Rattle.preview.proofs.show.Goals as goal
@@ -49,18 +50,19 @@ clock_at-k-requires c =
     let p = c.requires in
     rw (after (goal.at.clock_at-k-requires c).After-amount_of) (seconds_low _ _ p, after_low _ _ p)
 
-pub returns-then-is_in_time : goal.returns-then-is_in_time
-returns-then-is_in_time c =
+pub returns-in_err-ensure : goal.returns-in_err-ensure
+returns-in_err-ensure c =
     let p = c.requires in
-    let ended = rw (after (goal.at.returns-then-is_in_time c).After-amount_of) at c.is_in_time.ensures in
-    let shown = c.time_words-time.ensures
-    ∙ shows _ _ p _ (rw (after (goal.at.returns-then-is_in_time c).After-amount_of) at c.clock_at-k.ensures) in
-    rw (c.change_to.ensures, shown)
-    (shown_gives _ _ p.on p.op p.passed (sym (in_time _ _ p) ∙ sym ended ∙ c.if-is_in_time.true))
+    let f = c.in_err-ensure.ensures in
+    let ended = rw (after (goal.at.returns-in_err-ensure c).After-amount_of) at c.is_in_time.ensures in
+    handed_on _ _ c.from_residual.ensures.1 f.refused
+    (late_refused _ _ p.on p.op p.passed (sym (f.passed ∙ ended ∙ in_time _ _ p)))
 
 pub returns : goal.returns
 returns c =
     let p = c.requires in
     let ended = rw (after (goal.at.returns c).After-amount_of) at c.is_in_time.ensures in
-    rw (c.change_to-2.ensures, c.no_words.ensures)
-    (late_refused _ _ p.on p.op p.passed (sym (in_time _ _ p) ∙ sym ended ∙ c.if-is_in_time.false))
+    let shown = c.time_words-time.ensures
+    ∙ shows _ _ p _ (rw (after (goal.at.returns c).After-amount_of) at c.clock_at-k.ensures) in
+    rw (c.change_to.ensures, shown)
+    (shown_gives _ _ p.on p.op p.passed (sym (c.in_ok-ensure.ensures.passed ∙ ended ∙ in_time _ _ p)))

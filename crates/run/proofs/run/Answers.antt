@@ -11,23 +11,21 @@ has_time_left-requires c =
 
 pub run_within-requires : goal.run_within-requires
 run_within-requires c =
-    (c.requires.e_value, few_ticks c.args.c (sym c.run_fields.ensures ∙ c.if-run_fields.true))
-
-pub returns-then-has_time_left : goal.returns-then-has_time_left
-returns-then-has_time_left c =
-    rw c.run_within.ensures
-    (run_gives _ _ c.requires.e_value c.requires.op_value
-    (sym c.run_fields.ensures ∙ c.if-run_fields.true)
-    (sym c.has_time_left.ensures ∙ c.if-has_time_left.true))
-
-pub returns-then-run_fields : goal.returns-then-run_fields
-returns-then-run_fields c =
-    rw (c.change_to.ensures, c.no_words.ensures)
-    (late_refused _ _ c.requires.e_value c.requires.op_value
-    (sym c.run_fields.ensures ∙ c.if-run_fields.true)
-    (sym c.has_time_left.ensures ∙ c.if-has_time_left.false))
+    (c.requires.e_value, few_ticks c.args.c (sym c.run_fields.ensures ∙ c.if-not-run_fields.false))
 
 pub returns : goal.returns
 returns c =
-    rw (c.change_to-2.ensures, c.no_words-2.ensures)
-    (fields_refused _ _ c.requires.e_value c.requires.op_value (sym c.run_fields.ensures ∙ c.if-run_fields.false))
+    rw c.run_within.ensures
+    (run_gives _ _ c.requires.e_value c.requires.op_value
+    (sym c.run_fields.ensures ∙ c.if-not-run_fields.false)
+    (sym c.has_time_left.ensures ∙ c.if-not-has_time_left.false))
+
+pub returns-then-not-has_time_left : goal.returns-then-not-has_time_left
+returns-then-not-has_time_left c =
+    late_refused _ _ c.requires.e_value c.requires.op_value
+    (sym c.run_fields.ensures ∙ c.if-not-run_fields.false)
+    (sym c.has_time_left.ensures ∙ c.if-not-has_time_left.true)
+
+pub returns-then-not-run_fields : goal.returns-then-not-run_fields
+returns-then-not-run_fields c =
+    fields_refused _ _ c.requires.e_value c.requires.op_value (sym c.run_fields.ensures ∙ c.if-not-run_fields.true)

@@ -1,79 +1,75 @@
 -- Each turn writes the line of the next command, so the lines written and those of the commands left are all of them.
-use mathlib.Core.Path.{◌≡◌, refl, sym, ◌∙◌}
+use mathlib.Core.Path.{◌≡◌, refl}
 use mathlib.Core.Bool.{cond}
-use native.Mathlib.Omega.{arith}
-use Rattle.change.specs.Changes.{fifos_moved, outcome_of}
-use Rattle.engine.specs.Stepped.{Stepped}
+use Prim.Native.Nat.{◌+◌}
+use borrow.Author.Rules.{rules}
+use Rattle.model.specs.Words.{no_words}
+use Rattle.change.specs.Changes.{fifos_moved}
 use Rattle.engine.proofs.Steps.{gives_stepped}
-use Rattle.lines.specs.Reading.{ReadAt}
-use Rattle.sheet.proofs.Body.{LineTo}
-use Rattle.runner.proofs.Turns.{line_read, run_start, read_ok, line_to, line_room, run_on, run_end}
+use Rattle.text.proofs.Laws.FirstPart.{rest_is}
+use Rattle.runner.proofs.Turns.{sheet_long, run_start, line_inside, line_room, run_on, run_end}
 use Rattle.runner.proofs.put_results.Goals as goal
-use Rattle.runner.proofs.put_results.Goals.{After-next_at-next, Joined-m, then-m, else-m}
+use Rattle.runner.proofs.put_results.Goals.{in-Ok, then-change, else-change, in-Err}
 
-pub loop-at-init : goal.loop-at-init
-loop-at-init c =
-    run_start _ _ _ _ c.requires.s_value c.requires.s_in_bounds c.power_on-e.ensures
+pub slice_bounds-rest-count : goal.slice_bounds-rest-count
+slice_bounds-rest-count c = sheet_long c.args.s.now c.requires.s_value
 
--- the line that was read
-line_read_lem : (c : After-next_at-next)
-    → let s = c.args.s.now in
-    ReadAt s c.loop-at.at (line_read c.next_at-next.result.line.command c.next_at-next.result.end)
-line_read_lem c =
-    read_ok c.loop-at.invariant c.loop-at-test.true _ c.next_at-next.ensures
+pub slice_bounds-rest-start : goal.slice_bounds-rest-start
+slice_bounds-rest-start c = let long = sheet_long c.args.s.now c.requires.s_value in search rules
 
-pub move_fifos-e-requires : goal.move_fifos-e-requires
-move_fifos-e-requires c = sym c.change_by-m.ensures.moving ∙ c.if-m.true
+pub loop-command-init : goal.loop-command-init
+loop-command-init c =
+    rw (rest_is c.args.s.now 19) (run_start _ _ _ c.requires.s_value c.requires.room c.power_on-e.ensures)
 
--- where the record has its FIFOs moved, or as they were
-moved_is : (c : Joined-m)
-    → let e = c.loop-at.e in
-    c.if-m.e ≡ cond c.change_by-m.result.moves (fifos_moved e c.next_at-next.result.line.command) e
-moved_is c =
-    elim c.if-m.branch [
-      | then-m w ↦ rw (w.e-is, w.move_fifos-e.ensures, w.if-m.true) refl
-      | else-m w ↦ rw (w.e-is, w.if-m.false) refl
-    ]
+pub returns-in_default : goal.returns-in_default
+returns-in_default c = run_end c.loop-command.invariant c.next_line-next.ensures c.in_default.is
 
-stepped : (c : Joined-m)
-    → let e = c.loop-at.e in
-    let command = c.next_at-next.result.line.command in
-    Stepped e command (outcome_of e command c.change_by-m.result)
-stepped c =
-    gives_stepped _ _ c.loop-at.invariant.is_valid c.change_by-m.ensures
+pub put_result-requires : goal.put_result-requires
+put_result-requires c =
+    let run = c.loop-command.invariant in
+    line_room run c.next_line-next.ensures c.in-Some.is _ (gives_stepped _ _ run.is_valid c.in-Ok.ensures)
 
-pub put_result-end-requires : goal.put_result-end-requires
-put_result-end-requires c =
-    line_room c.loop-at.invariant c.loop-at-test.true
-    (line_read_lem (goal.at.put_result-end-requires c).After-next_at-next) _
-    (stepped (goal.at.put_result-end-requires c).Joined-m)
+pub put_result-requires-in-Err : goal.put_result-requires-in-Err
+put_result-requires-in-Err c =
+    let run = c.loop-command.invariant in
+    let none : c.default.result ≡ no_words = search rules in
+    rw (c.number.ensures, none)
+    (line_room run c.next_line-next.ensures c.in-Some.is _ (gives_stepped _ _ run.is_valid c.in-Err.ensures))
 
--- the turn, from its end
-line_passed : (c : After-next_at-next)
-    → LineTo c.args.s.now c.loop-at.at c.loop-at.k c.next_at-next.result.end
-line_passed c =
-    line_to c.loop-at.invariant c.loop-at-test.true (line_read_lem c)
+pub overflow_add-rest : goal.overflow_add-rest
+overflow_add-rest c =
+    let inside = line_inside c.loop-command.invariant c.next_line-next.ensures c.in-Some.is in
+    search rules
 
-pub overflow_add-at : goal.overflow_add-at
-overflow_add-at c =
-    omega (arith, c.loop-at.invariant.short, (line_passed (goal.at.overflow_add-at c).After-next_at-next).inside)
+pub slice_bounds-rest-count-in-loop-command : goal.slice_bounds-rest-count-in-loop-command
+slice_bounds-rest-count-in-loop-command c =
+    let inside = line_inside c.loop-command.invariant c.next_line-next.ensures c.in-Some.is in
+    search rules
 
-pub overflow_add-k : goal.overflow_add-k
-overflow_add-k c =
-    let inv = c.loop-at.invariant in
-    omega (arith, inv.numbered, inv.within, inv.short)
+pub slice_bounds-rest-start-in-loop-command : goal.slice_bounds-rest-start-in-loop-command
+slice_bounds-rest-start-in-loop-command c =
+    let inside = line_inside c.loop-command.invariant c.next_line-next.ensures c.in-Some.is in
+    search rules
 
-pub loop-at-smaller : goal.loop-at-smaller
-loop-at-smaller c =
-    let to = line_passed (goal.at.loop-at-smaller c).After-next_at-next in
-    omega (arith, to.forth, to.inside)
-
-pub loop-at-preserved : goal.loop-at-preserved
-loop-at-preserved c =
-    rw (c.apply-e.ensures, moved_is (goal.at.loop-at-preserved c).Joined-m)
-    (run_on c.loop-at.invariant c.loop-at-test.true (line_read_lem (goal.at.loop-at-preserved c).After-next_at-next) _
-    (stepped (goal.at.loop-at-preserved c).Joined-m)
-    c.put_result-end.ensures)
-
-pub returns : goal.returns
-returns c = run_end c.loop-at.invariant c.loop-at-test.false
+pub loop-command-preserved : goal.loop-command-preserved
+loop-command-preserved c =
+    let run = c.loop-command.invariant in
+    let e = c.loop-command.e in
+    let command = c.in-Some.command in
+    let read = c.next_line-next.ensures in
+    rw (rest_is c.loop-command.rest.now (c.next_line-next.result.end + 1))
+    (elim c.match-change_by.branch [
+      | in-Ok w ↦
+          let moved : w.if-change.e ≡ cond w.in-Ok.change.moves (fifos_moved e command) e =
+          elim w.if-change.branch [
+            | then-change v ↦ rw (v.e-is, v.move_fifos-e.ensures, v.if-change.true) refl
+            | else-change v ↦ rw (v.e-is, v.if-change.false) refl
+          ] in
+          rw (w.writer-is, w.e-is, w.apply-e.ensures, moved)
+          (run_on run read c.in-Some.is _ (gives_stepped _ _ run.is_valid w.in-Ok.ensures) w.put_result.ensures)
+      | in-Err w ↦
+          let none : w.default.result ≡ no_words = search rules in
+          let written = rw (w.number.ensures, none) at w.put_result-in-Err.ensures in
+          let stepped = gives_stepped _ _ run.is_valid w.in-Err.ensures in
+          rw (w.writer-is, w.e-is) (run_on run read c.in-Some.is _ stepped written)
+    ])

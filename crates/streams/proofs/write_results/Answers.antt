@@ -1,7 +1,9 @@
 -- What came of the sheet is as much of it as number 1 needs, and its results are what the writer was given.
-use Rattle.std.proofs.Common.{◌≡◌, ℕ, Option, None, Some, IfSome, List, ap, ◌∙◌, subst, take}
+use Rattle.std.proofs.Common.{◌≡◌, ℕ, Option, None, Some, IfSome, Result, Ok, Err, MatchResult, List, ap, ◌∙◌}
+use Rattle.std.proofs.Common.{subst, take}
 use Rattle.std.specs.Io.KnownBytes.{Appends, Consumes}
 use Rattle.text.specs.Results.{results}
+use Rattle.streams.specs.declared.Failure.{Failure}
 use Rattle.streams.proofs.Enough.{enough}
 use Rattle.streams.proofs.write_results.Goals as goal
 
@@ -21,11 +23,22 @@ written None before after sheet out room full came same put = tt
 written (Some whole) before after sheet out room full came same put =
     subst (Appends before after) (same ∙ ap results (came ∙ ap (λ n. take n whole) full) ∙ enough whole) put
 
-pub returns-in-Ok-write_all-clause-written : goal.returns-in-Ok-write_all-clause-written
-returns-in-Ok-write_all-clause-written g c =
-    written _ _ _ _ _ _ c.read_until_full.auto.buffer c.in-Ok.ensures.front c.results_of-length.ensures.out_after
-    c.in-Ok-write_all.ensures.bytes
+-- what `map_err` gives is Ok only where what it was given was
+was_ok : {T E : Type 0} (r : Result T E) (x : T)
+    → MatchResult r (λ y. let given : Result T Failure = Ok x in given ≡ Ok y) (λ e. ⊥)
+    → r ≡ Ok x
+was_ok (Ok y) x h = cc
+was_ok (Err e) x h = absurd h
 
-pub returns-in-Ok-write_all-clause-read : goal.returns-in-Ok-write_all-clause-read
-returns-in-Ok-write_all-clause-read g c =
-    consumed _ _ _ _ c.read_until_full.auto.buffer c.in-Ok.ensures.front c.in-Ok.ensures.bytes
+pub returns-clause-written : goal.returns-clause-written
+returns-clause-written g c =
+    let read = was_ok c.read_until_full.result c.in_ok-count.count c.in_ok-count.ensures.cases in
+    let put = was_ok c.write_all.result c.in_ok-map_err.field-0 c.in_ok-map_err.ensures.cases in
+    written _ _ _ _ _ _ c.read_until_full.auto.buffer (rw read at c.read_until_full.ensures.front)
+    c.results_of-length.ensures.out_after (rw put at c.write_all.ensures.bytes)
+
+pub returns-clause-read : goal.returns-clause-read
+returns-clause-read g c =
+    let read = was_ok c.read_until_full.result c.in_ok-count.count c.in_ok-count.ensures.cases in
+    consumed _ _ _ _ c.read_until_full.auto.buffer (rw read at c.read_until_full.ensures.front)
+    (rw read at c.read_until_full.ensures.bytes)

@@ -1,14 +1,20 @@
 -- The starred examples of document 01 that are sheets; and the whole example, which is not starred.
 use Prim.Native.Nat.{ℕ}
 use mathlib.Core.List.{List, [], ◌∷◌}
+use Rattle.std.specs.Prelude.{Ok, Err}
 use Rattle.model.proofs.Examples.Runs.{Example}
 use Rattle.text.specs.Text.{bytes}
+use Rattle.text.specs.Forms.{Verdict, refusal_number, refusal_line}
 use Rattle.text.specs.Sheet.{sheet_version, sheet_verdict}
 use Rattle.text.specs.Results.{results}
 
--- the line and the number of a sheet's refusal
+-- the line and the number of a sheet's refusal, or zeros
+abbrev line_and_number : Verdict → List ℕ
+line_and_number (Ok u) = 0 ∷ 0 ∷ []
+line_and_number (Err e) = refusal_line e ∷ refusal_number e ∷ []
+
 unfoldable pub verdict : List ℕ → List ℕ
-verdict s = (sheet_verdict s).line ∷ (sheet_verdict s).answer ∷ []
+verdict s = line_and_number (sheet_verdict s)
 
 unfoldable pub sheets : List Example
 sheets =

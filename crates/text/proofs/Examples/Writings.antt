@@ -3,12 +3,16 @@
 use Prim.Native.Nat.{ℕ}
 use Prim.Native.String.{String}
 use mathlib.Core.List.{List, [], ◌∷◌, ◌++◌}
-use mathlib.Core.Bool.{cond}
+use Rattle.std.specs.Prelude.{Option, Some, None}
 use Rattle.text.specs.Text.{bytes, value_of, base16}
 use Rattle.model.proofs.Examples.Runs.{Example}
 
+abbrev told_value : Option ℕ → List ℕ
+told_value (Some n) = 1 ∷ n ∷ []
+told_value None = 0 ∷ []
+
 unfoldable pub told : String → List ℕ
-told t = let v = value_of (bytes t) in cond v.ok (1 ∷ v.number ∷ []) (0 ∷ [])
+told t = told_value (value_of (bytes t))
 
 unfoldable pub told_of : List String → List ℕ
 told_of [] = []

@@ -12,57 +12,57 @@ use Rattle.text.specs.Text.{all_digits, number_after, is_number, digits_in, deci
 use Rattle.text.proofs.Laws.Digits as Digits
 
 -- 20 digits are enough in decimal, and 16 in base 16
-decimal_wide : (n : ℕ) → n < 2 ^ 64 → n < 10 ^ 20
-decimal_wide n l = omega arith
+twenty : Digits.Fits 10 18
+twenty = record { two = omega arith; most = omega arith; wide = λ n l. omega arith }
 
-base16_wide : (n : ℕ) → n < 2 ^ 64 → n < 16 ^ 16
-base16_wide n l = l
+sixteen : Digits.Fits 16 14
+sixteen = record { two = omega arith; most = omega arith; wide = λ n l. l }
 
 -- a number below 10 is one digit
 pub decimal_digit : (n : ℕ) → n < 10 → decimal n ≡ (48 + n) ∷ []
 unfolding decimal
-decimal_digit n h = Digits.text_digit 10 18 (omega arith) (omega arith) decimal_wide n h ∙ rw (lt-ltb n 10 h) refl
+decimal_digit n h = Digits.text_digit twenty n h ∙ rw (lt-ltb n 10 h) refl
 
 -- any other has one digit more than its tenth
 pub decimal_more : (n : ℕ) → 10 ≤ n → n < 2 ^ 64 → decimal n ≡ decimal (n / 10) ++ ((48 + n % 10) ∷ [])
 unfolding decimal
 decimal_more n h l =
     let last : n % 10 < 10 = omega arith in
-    Digits.text_more 10 18 (omega arith) (omega arith) decimal_wide n h l ∙ rw (lt-ltb (n % 10) 10 last) refl
+    Digits.text_more twenty n h l ∙ rw (lt-ltb (n % 10) 10 last) refl
 
 -- it is read as it is written, and each number that is read is so written
 pub decimal_some : (n : ℕ) → 0 < length (decimal n)
 unfolding decimal
-decimal_some n = Digits.text_some 10 18 (omega arith) (omega arith) decimal_wide n
+decimal_some n = Digits.text_some twenty n
 
 pub decimal_digits : (n : ℕ) → n < 2 ^ 64 → all_digits 10 (decimal n) ≡ true
 unfolding decimal
-decimal_digits n l = Digits.text_digits 10 18 (omega arith) (omega arith) decimal_wide n l
+decimal_digits n l = Digits.text_digits twenty n l
 
 pub decimal_is_number : (n : ℕ) → n < 2 ^ 64 → is_number 10 (decimal n) ≡ true
 unfolding decimal
-decimal_is_number n l = Digits.text_is_number 10 18 (omega arith) (omega arith) decimal_wide n l
+decimal_is_number n l = Digits.text_is_number twenty n l
 
 pub number_of_decimal : (n : ℕ) → n < 2 ^ 64 → number_after 10 0 (decimal n) ≡ n
 unfolding decimal
-number_of_decimal n l = Digits.number_of_text 10 18 (omega arith) (omega arith) decimal_wide n l
+number_of_decimal n l = Digits.number_of_text twenty n l
 
 pub decimal_of_number : (bs : List ℕ) → is_number 10 bs ≡ true → decimal (number_after 10 0 bs) ≡ bs
 unfolding decimal
-decimal_of_number bs h = Digits.text_of_number 10 18 (omega arith) (omega arith) decimal_wide bs h
+decimal_of_number bs h = Digits.text_of_number twenty bs h
 
 -- the digits in base 16, likewise
 pub sixteen_digits : (n : ℕ) → n < 2 ^ 64 → all_digits 16 (digits_in 16 16 n) ≡ true
-sixteen_digits n l = Digits.text_digits 16 14 (omega arith) (omega arith) base16_wide n l
+sixteen_digits n l = Digits.text_digits sixteen n l
 
 pub sixteen_is_number : (n : ℕ) → n < 2 ^ 64 → is_number 16 (digits_in 16 16 n) ≡ true
-sixteen_is_number n l = Digits.text_is_number 16 14 (omega arith) (omega arith) base16_wide n l
+sixteen_is_number n l = Digits.text_is_number sixteen n l
 
 pub number_of_sixteen : (n : ℕ) → n < 2 ^ 64 → number_after 16 0 (digits_in 16 16 n) ≡ n
-number_of_sixteen n l = Digits.number_of_text 16 14 (omega arith) (omega arith) base16_wide n l
+number_of_sixteen n l = Digits.number_of_text sixteen n l
 
 pub sixteen_of_number : (bs : List ℕ) → is_number 16 bs ≡ true → digits_in 16 16 (number_after 16 0 bs) ≡ bs
-sixteen_of_number bs h = Digits.text_of_number 16 14 (omega arith) (omega arith) base16_wide bs h
+sixteen_of_number bs h = Digits.text_of_number sixteen bs h
 
 pub length_digit : (n : ℕ) → n < 10 → length (decimal n) ≡ 1
 length_digit n h = rw (decimal_digit n h)

@@ -4,8 +4,7 @@
 -- each text is that of its number.
 use Prim.Native.Nat.{ℕ, zero, suc, ◌+◌, ◌*◌, ◌-◌, ◌/◌, ◌%◌, ◌^◌, ◌≤◌, ◌<◌}
 use mathlib.Core.Path.{◌≡◌, refl, ◌∙◌}
-use mathlib.Core.Bool.{Bool, true, false, ◌&&◌, cond, and-false, false≢true}
-use mathlib.Core.Logic.{◌⊎◌, inl, inr}
+use mathlib.Core.Bool.{Bool, true, false, ◌&&◌, cond, false≢true}
 use mathlib.Core.List.{List, [], ◌∷◌, ◌++◌, append-nil}
 use native.Mathlib.Decide.{dec_lt}
 use native.Mathlib.Nat.{pow-suc, pow-zero, one-mul, zero-mul, zero-add, mod-lt, div-add-mod', mul-le-mul_left}
@@ -18,7 +17,7 @@ use lib.Arith.{digits_div, digits_mod}
 use lib.Seq.{append_snoc}
 use borrow.Author.Tests.{lt-ltb, le-ltb, le-leb, lt-leb, ne_eqb, leb-true, ltb-true, eqb-false, not-true}
 use Rattle.text.specs.Text.{digit_of, all_digits, number_after, leads_well, is_number, byte_of, digits_in}
-use Rattle.model.proofs.Laws.Testing.{split, both, both_true}
+use Rattle.model.proofs.Laws.Testing.{both, both_true}
 
 -- ---- a digit and its byte
 
@@ -43,14 +42,6 @@ digit_of_byte d h =
 -- 0x30 to 0x39 are the digits in decimal
 pub decimal_byte : (b : ℕ) → 48 ≤ b → b ≤ 57 → digit_of b ≡ b - 48
 decimal_byte b low high = rw (le-leb 48 b low, le-leb b 57 high) refl
-
-pub no_decimal_byte : (b : ℕ) → (b < 48) ⊎ (57 < b) → 10 ≤ digit_of b
-no_decimal_byte b (inl low) = rw (lt-leb 48 b low, lt-leb 97 b (omega arith)) (omega arith)
-no_decimal_byte b (inr high) =
-    rw (lt-leb b 57 high, and-false (leb 48 b))
-    (split (λ (d : ℕ). 10 ≤ d) (leb 97 b && leb b 102)
-    (λ t. omega (arith, leb-true 97 b (both (leb 97 b) (leb b 102) t).0))
-    (λ f. omega arith))
 
 -- a byte that is a digit
 pub record DigitByte (b d : ℕ) : Type 0 where
@@ -133,8 +124,12 @@ number_in base bs h =
 
 -- ---- numbers in a base, with room for every one below 2^64
 
-module _ (base room : ℕ) (two : 2 ≤ base) (most : base ≤ 16)
-    (wide : (n : ℕ) → n < 2 ^ 64 → n < base ^ suc (suc room)) where
+pub record Fits (base room : ℕ) : Type 0 where
+  pub two : 2 ≤ base
+  pub most : base ≤ 16
+  pub wide : (n : ℕ) → n < 2 ^ 64 → n < base ^ suc (suc room)
+
+module _ {base room : ℕ} (fits : Fits base room) where
   abbrev text : ℕ → List ℕ
   text n = digits_in base (suc (suc room)) n
 
@@ -158,7 +153,7 @@ module _ (base room : ℕ) (two : 2 ≤ base) (most : base ≤ 16)
 
   pub text_more : (n : ℕ) → base ≤ n → n < 2 ^ 64 → text n ≡ text (n / base) ++ (byte_of (n % base) ∷ [])
   text_more n h l =
-      rw (← stable room (n / base) (quotient_low (suc room) n (wide n l))) (rw (le-ltb n base h) refl)
+      rw (← stable room (n / base) (quotient_low (suc room) n (fits.wide n l))) (rw (le-ltb n base h) refl)
 
   -- induction on the digits of a number
   module _ (P : ℕ → Type 0) (digit : (n : ℕ) → n < base → P n)
@@ -245,9 +240,9 @@ module _ (base room : ℕ) (two : 2 ≤ base) (most : base ≤ 16)
       let digit = ltb-true (digit_of b) base tests.0 in
       let n = v * base + digit_of b in
       let once : v * 1 ≤ v * base = mul-le-mul_left v (omega arith) in
-      let fits : n < 2 ^ 64 = omega (arith, number_grows base n bs (omega arith)) in
+      let below : n < 2 ^ 64 = omega (arith, number_grows base n bs (omega arith)) in
       text_after n bs (omega arith) tests.1 l
-      ∙ rw (text_next v b some digit fits, append_snoc) refl
+      ∙ rw (text_next v b some digit below, append_snoc) refl
 
   text_first : (b : ℕ) → digit_of b < base → text (0 * base + digit_of b) ≡ b ∷ []
   text_first b h =

@@ -1,16 +1,15 @@
 -- A byte other than the separator goes in front of the first part, and a separator begins a new one. So the first
 -- part is the text before the first separator, and the other parts are those of the text behind it.
-use mathlib.Core.Path.{◌≡◌, refl, sym, ap}
+use mathlib.Core.Path.{◌≡◌, refl, ap}
 use mathlib.Core.Bool.{Bool, true, false, cond}
 use mathlib.Core.List.{List, [], ◌∷◌}
 use Prim.Native.Nat.{ℕ, suc, ◌+◌, ◌-◌, ◌≤◌, ◌<◌}
 use native.Mathlib.Numerals.{add-one}
-use native.Mathlib.Nat.{add-suc, add-sub_cancel_left, le_of_suc-le-suc}
+use native.Mathlib.Nat.{add-suc, le_of_suc-le-suc}
 use native.Mathlib.Omega.{arith}
 use lib.Dec.{eqb}
-use lib.ListN.{length, get_or, take, drop, length-drop, drop_of_length-le}
-use lib.Seq.{take_all, drop-cons, drop-drop}
-use borrow.Author.Tests.{eq-eqb, ne_eqb}
+use lib.ListN.{length, get_or, take, drop, length-drop}
+use lib.Seq.{take_all, drop-drop}
 use Rattle.text.specs.Text.{into_parts, parts, first_part}
 
 -- the first part, byte by byte
@@ -60,23 +59,8 @@ more_parts sep (b ∷ bs) h =
     let first = first_into (eqb b sep) b (parts sep bs) in
     rw first (more_into (eqb b sep) sep b bs (more_parts sep bs) (rw first at h))
 
--- the first byte at an index is the separator, another byte, or there is none
-module _ (sep : ℕ) (s : List ℕ) (i : ℕ) where
-  pub first_here : i < length s → get_or s i 0 ≡ sep → length (first_part sep (drop i s)) ≡ 0
-  first_here h e = rw (drop-cons s i 0 h, eq-eqb _ _ e)
-
-  pub first_on : i < length s → (get_or s i 0 ≡ sep → ⊥)
-      → length (first_part sep (drop i s)) ≡ suc (length (first_part sep (drop (i + 1) s)))
-  first_on h n = rw (add-one, drop-cons s i 0 h, first_into, ne_eqb _ _ n)
-
-  pub first_none : length s ≤ i → length (first_part sep (drop i s)) ≡ 0
-  first_none h = rw (drop_of_length-le s h)
-
 -- the parts from an index on, where the first has n bytes
 module _ (sep : ℕ) (s : List ℕ) (at n : ℕ) (e : n ≡ length (first_part sep (drop at s))) where
-  pub first_is : take (at + n - at) (drop at s) ≡ first_part sep (drop at s)
-  first_is = rw (add-sub_cancel_left, e) (sym (first_take sep (drop at s)))
-
   pub parts_last : length s ≤ at + n → parts sep (drop at s) ≡ drop at s ∷ []
   parts_last h = one_part sep (drop at s) (omega (arith, length-drop at s))
 

@@ -1,26 +1,28 @@
 -- The lines of a sheet are the parts of its text behind the first line, and what stands behind the last line end is
 -- empty. So a sheet that writes rows reads as these rows, and an accepted sheet writes the rows that it reads as.
 use Prim.Native.Nat.{ℕ, ◌+◌, ◌≤◌, ◌<◌}
-use mathlib.Core.Path.{◌≡◌, refl, ap, ◌∙◌}
+use mathlib.Core.Path.{◌≡◌, refl, ◌∙◌}
 use mathlib.Core.Bool.{Bool, true, false, cond}
 use mathlib.Core.List.{List, [], ◌∷◌, ◌++◌}
 use native.Mathlib.Omega.{arith}
 use lib.Dec.{eqb, ltb}
 use lib.ListN.{length, drop}
-use lib.Seq.{append_snoc}
+use lib.Seq.{append_snoc, drop-append_seam}
 use borrow.Author.Tests.{le-ltb, eqb-true, ltb-false}
-use Rattle.text.specs.declared.Verdict.{Verdict}
+use Rattle.std.specs.Prelude.{Err}
+use Rattle.text.specs.declared.SheetRefusal.{SheetRefusal}
+use Rattle.text.specs.declared.SheetRefusal.TheVariants.{TooLong, FirstLine, ValueLine}
 use Rattle.text.specs.Text.{line_end, parts, starts_with}
 use Rattle.text.specs.Forms.{Form, WritesLines, WritesSheet, reads_line, row_in, rows_of, rows_in}
-use Rattle.text.specs.Forms.{refused_at, sheet_accepted, lines_verdict, head_verdict, verdict_of}
+use Rattle.text.specs.Forms.{Verdict, sheet_accepted, lines_verdict, verdict_then, head_verdict, verdict_of}
 use Rattle.text.proofs.Laws.Splits.{joined, joined_parts, first_part_lem, parts_some, starts_in, starts_front}
-use Rattle.text.proofs.Laws.Splits.{drop_front}
 use Rattle.text.proofs.Laws.FormLines.{AllInverse, LineIn, line_in, line_written}
 
 -- an accepted sheet was not refused at a test
-pub passed : (t : Bool) (v w : Verdict) → 0 < w.answer → cond t v w ≡ sheet_accepted → (t ≡ true) × (v ≡ sheet_accepted)
-passed true v w some h = (refl, h)
-passed false v w some h = absurd (omega (arith, ap (λ r. r.answer) h))
+pub passed : (t : Bool) (v : Verdict) (e : SheetRefusal) → cond t v (Err e) ≡ sheet_accepted
+    → (t ≡ true) × (v ≡ sheet_accepted)
+passed true v e h = (refl, h)
+passed false v e h = cc
 
 -- a line in front of others
 rows_first : (f : Form) (l : List ℕ) (ps : List (List ℕ)) → 0 < length ps
@@ -28,13 +30,13 @@ rows_first : (f : Form) (l : List ℕ) (ps : List (List ℕ)) → 0 < length ps
 rows_first f l [] h = absurd (omega arith)
 rows_first f l (p ∷ ps) h = refl
 
-verdict_first : (f : Form) (k : ℕ) (l : List ℕ) (ps : List (List ℕ)) → 0 < length ps
-    → lines_verdict f k (l ∷ ps) ≡ cond (reads_line f l) (lines_verdict f (k + 1) ps) (refused_at k 3)
+pub verdict_first : (f : Form) (k : ℕ) (l : List ℕ) (ps : List (List ℕ)) → 0 < length ps
+    → lines_verdict f k (l ∷ ps) ≡ cond (reads_line f l) (lines_verdict f (k + 1) ps) (Err (ValueLine k))
 verdict_first f k l [] h = absurd (omega arith)
 verdict_first f k l (p ∷ ps) h = refl
 
 -- the answer to a sheet by its size and its first line
-pub by_head : (P : Verdict → Type 0) (f : Form) (s : List ℕ) → P (refused_at 0 1) → P (refused_at 1 2)
+pub by_head : (P : Verdict → Type 0) (f : Form) (s : List ℕ) → P (Err TooLong) → P (Err FirstLine)
     → (length s ≤ 65536
     → starts_with f.first_line s ≡ true
     → P (lines_verdict f 2 (parts line_end (drop (length f.first_line) s))))
@@ -42,13 +44,9 @@ pub by_head : (P : Verdict → Type 0) (f : Form) (s : List ℕ) → P (refused_
 unfolding verdict_of head_verdict
 by_head P f s long other lines = by (ltb 65536 (length s)) (starts_with f.first_line s) refl refl
   where
-    head : Bool → Bool → Verdict
-    head over starts = cond over (refused_at 0 1) (cond starts sheet_accepted (refused_at 1 2))
-
     by : (over starts : Bool) → ltb 65536 (length s) ≡ over → starts_with f.first_line s ≡ starts
-        → P (cond (eqb (head over starts).answer 0)
-        (lines_verdict f 2 (parts line_end (drop (length f.first_line) s)))
-        (head over starts))
+        → P (verdict_then (cond over (Err TooLong) (cond starts sheet_accepted (Err FirstLine)))
+        (lines_verdict f 2 (parts line_end (drop (length f.first_line) s))))
     by true starts p q = long
     by false false p q = other
     by false true p q = lines (ltb-false _ _ p) q
@@ -62,8 +60,8 @@ pub record AcceptedBy (f : Form) (s : List ℕ) : Type 0 where
 pub accepted_in : (f : Form) (s : List ℕ) → verdict_of f s ≡ sheet_accepted → AcceptedBy f s
 accepted_in f s =
     by_head (λ v. v ≡ sheet_accepted → AcceptedBy f s) f s
-    (λ h. absurd (omega (arith, ap (λ r. r.answer) h)))
-    (λ h. absurd (omega (arith, ap (λ r. r.answer) h)))
+    (λ h. cc)
+    (λ h. cc)
     (λ short starts lines. record { short = short; starts = starts; lines = lines })
 
 module _ (f : Form) (inverse : AllInverse f.values) (some : 0 < length f.values) where
@@ -100,10 +98,10 @@ module _ (f : Form) (inverse : AllInverse f.values) (some : 0 < length f.values)
   lines_written k ([] ∷ []) bs h e = cc
   lines_written k ((b ∷ l) ∷ []) bs h e =
       let n = length (b ∷ l) in
-      let empty = passed (eqb n 0) sheet_accepted (refused_at k 3) (omega arith) h in
+      let empty = passed (eqb n 0) sheet_accepted (ValueLine k) h in
       absurd (omega (arith, eqb-true n 0 empty.0))
   lines_written k (l ∷ m ∷ ls) bs h e =
-      let tests = passed (reads_line f l) (lines_verdict f (k + 1) (m ∷ ls)) (refused_at k 3) (omega arith) h in
+      let tests = passed (reads_line f l) (lines_verdict f (k + 1) (m ∷ ls)) (ValueLine k) h in
       let behind = m ++ joined line_end ls in
       record {
         front = l ++ (line_end ∷ []);
@@ -119,7 +117,7 @@ module _ (f : Form) (inverse : AllInverse f.values) (some : 0 < length f.values)
   unfolding verdict_of head_verdict
   sheet_read s rows w short =
       let text : s ≡ f.first_line ++ w.back = w.whole ∙ rw w.first refl in
-      let behind : drop (length f.first_line) s ≡ w.back = rw text (drop_front f.first_line w.back) in
+      let behind : drop (length f.first_line) s ≡ w.back = rw text (drop-append_seam f.first_line w.back) in
       let starts : starts_with f.first_line s ≡ true = rw text (starts_front f.first_line w.back) in
       let lines = lines_read 2 w.back rows w.second in
       (rw (le-ltb 65536 (length s) short, starts, behind) lines.0, rw behind lines.1)

@@ -10,6 +10,7 @@ use lib.Dec.{ltb}
 use lib.ListN.{length, get_or, drop, replicate, drop_of_length-le}
 use lib.Seq.{drop-cons}
 use borrow.Author.Tests.{ltb-true, lt-ltb}
+use Rattle.std.specs.Prelude.{Some}
 use Rattle.model.specs.declared.Command.{Command}
 use Rattle.model.specs.Tests.{every}
 use Rattle.text.specs.Text.{comma, line_end, is_value, Lacks, parts, decimal, numbers, row}
@@ -106,7 +107,7 @@ module _ (ts : List (List ℕ)) (ns : List ℕ) (w : WritesEach (eithers 9) ts n
   unfolding row_in command_sheet
   texts_command = rw texts_parts (ap command_of read.1)
 
-  pub texts_line : line_of (with_commas ts) ≡ record { ok = true; command = command_of ns }
+  pub texts_line : line_of (with_commas ts) ≡ Some (command_of ns)
   unfolding line_of
   texts_line = rw (texts_ok, texts_command)
 
@@ -127,7 +128,7 @@ module _ (c : Command) (h : all_fit (fields_of c) ≡ true) where
   pub line_lacks_end : Lacks line_end (numbers (fields_of c))
   line_lacks_end = rw (numbers_commas (fields_of c)) (texts_lack_end texts (fields_of c) written)
 
-  pub line_of_command : line_of (numbers (fields_of c)) ≡ record { ok = true; command = c }
+  pub line_of_command : line_of (numbers (fields_of c)) ≡ Some c
   line_of_command = rw (numbers_commas (fields_of c)) (texts_line texts (fields_of c) written)
 
 -- the k numbers of a list from a place on, as a command is made of nine

@@ -8,20 +8,22 @@ use mathlib.Core.Bool.{Bool, true, false}
 use native.Mathlib.Omega.{arith}
 use lib.Dec.{eqb}
 use lib.ListN.{length, drop, length-append, length-drop}
-use borrow.Author.Tests.{eqb-true, ne_eqb}
 use Rattle.model.specs.declared.Engine.{Engine}
 use Rattle.model.specs.declared.Command.{Command}
 use Rattle.model.specs.declared.Words.{Words}
-use Rattle.text.specs.declared.Verdict.{Verdict}
+use Rattle.std.specs.Prelude.{Ok, Err}
+use Rattle.text.specs.declared.SheetRefusal.{SheetRefusal}
+use Rattle.text.specs.declared.SheetRefusal.TheVariants.{TooLong, FirstLine, ValueLine}
 use Rattle.model.specs.Words.{no_words}
 use Rattle.model.specs.Record.{power_on}
 use Rattle.model.specs.Bounds.{WordsRange}
 use Rattle.model.specs.Execute.{execute}
 use Rattle.model.specs.Run.{history_by, history_from}
 use Rattle.text.specs.Text.{line_end, into_parts, parts, decimal}
-use Rattle.text.specs.Forms.{refused_at, sheet_accepted}
+use Rattle.text.specs.Forms.{Verdict, refusal_number, refusal_line, sheet_accepted}
 use Rattle.text.specs.Sheet.{command_sheet, is_line, body_verdict, sheet_verdict, commands_in}
-use Rattle.text.specs.Results.{result_head, result_line, result_lines, command_results, results, results_room}
+use Rattle.text.specs.Results.{result_head, result_line, result_lines, command_results, results_by, results}
+use Rattle.text.specs.Results.{results_room}
 use Rattle.model.proofs.Laws.Testing.{split}
 use Rattle.text.proofs.Laws.Decimal.{length_below}
 use Rattle.text.proofs.Laws.FormSheets.{by_head}
@@ -72,24 +74,22 @@ result_lines_length (c ∷ cs) e k h =
 
 -- ---- a refused sheet
 
--- a verdict has a line number of at most five digits and an answer of one, and answer 0 only for an accepted sheet
-record Judged (v : Verdict) : Type 0 where
-  line : v.line < 100000
-  answer : v.answer < 10
-  zero : v.answer ≡ 0 → v ≡ sheet_accepted
-
-accepted_judged : Judged sheet_accepted
-accepted_judged = record { line = omega arith; answer = omega arith; zero = λ z. refl }
-
-refused_judged : (line answer : ℕ) → (line < 100000) × (0 < answer) × (answer < 10) → Judged (refused_at line answer)
-refused_judged line answer h = record { line = h.0; answer = h.2; zero = λ z. absurd (omega arith) }
+-- a refusal stands in a line whose number has at most five digits
+abbrev Judged : Verdict → Type 0
+Judged (Ok u) = Unit {0}
+Judged (Err e) = refusal_line e < 100000
 
 body_judged : (k : ℕ) (ls : List (List ℕ)) → k + length ls ≤ 100000 → Judged (body_verdict k ls)
-body_judged k [] h = accepted_judged
-body_judged k (l ∷ []) h =
-    split Judged (eqb (length l) 0) (λ y. accepted_judged) (λ n. refused_judged k 3 (omega arith))
+body_judged k [] h = tt
+body_judged k (l ∷ []) h = split Judged (eqb (length l) 0) (λ y. tt) (λ n. omega arith)
 body_judged k (l ∷ m ∷ ls) h =
-    split Judged (is_line l) (λ y. body_judged (k + 1) (m ∷ ls) (omega arith)) (λ n. refused_judged k 3 (omega arith))
+    split Judged (is_line l) (λ y. body_judged (k + 1) (m ∷ ls) (omega arith)) (λ n. omega arith)
+
+-- and has a number of one digit
+number_small : (e : SheetRefusal) → refusal_number e < 10
+number_small TooLong = omega arith
+number_small FirstLine = omega arith
+number_small (ValueLine line) = omega arith
 
 -- a text has at most one part more than bytes
 parts_few : (separator : ℕ) (bs : List ℕ) → length (parts separator bs) ≤ length bs + 1
@@ -105,22 +105,20 @@ parts_few separator (b ∷ bs) = by (eqb b separator) (parts separator bs) (part
 verdict_judged : (s : List ℕ) → Judged (sheet_verdict s)
 unfolding command_sheet
 verdict_judged s =
-    by_head Judged command_sheet s (refused_judged 0 1 (omega arith)) (refused_judged 1 2 (omega arith))
+    by_head Judged command_sheet s (omega arith) (omega arith)
     (λ short starts. body_judged 2 (parts line_end (drop 19 s)) (few short))
   where
     few : length s ≤ 65536 → 2 + length (parts line_end (drop 19 s)) ≤ 100000
     few h = omega (arith, parts_few line_end (drop 19 s), length-drop 19 s)
 
-pub verdict_answer_zero : (s : List ℕ) → (sheet_verdict s).answer ≡ 0 → sheet_verdict s ≡ sheet_accepted
-verdict_answer_zero s = (verdict_judged s).zero
-
-pub refused_length : (s : List ℕ) → length (result_line (sheet_verdict s).line (sheet_verdict s).answer no_words) ≤ 38
-refused_length s =
-    let v = sheet_verdict s in
-    let j = verdict_judged s in
-    let five = length_below 5 v.line (omega arith) j.line (omega (arith, j.line)) in
-    let one = length_below 1 v.answer (omega arith) j.answer (omega (arith, j.answer)) in
-    line_fits v.line v.answer no_words (omega arith) no_words_in
+pub refused_length : (s : List ℕ) (e : SheetRefusal) → sheet_verdict s ≡ Err e
+    → length (result_line (refusal_line e) (refusal_number e) no_words) ≤ 38
+refused_length s e h =
+    let line : refusal_line e < 100000 = rw h at (verdict_judged s) in
+    let number = number_small e in
+    let five = length_below 5 (refusal_line e) (omega arith) (omega arith) (omega arith) in
+    let one = length_below 1 (refusal_number e) (omega arith) (omega arith) (omega arith) in
+    line_fits (refusal_line e) (refusal_number e) no_words (omega arith) no_words_in
 
 -- ---- every sheet
 
@@ -133,17 +131,18 @@ command_results_length s h =
 
 pub results_fit : (s : List ℕ) → length (results s) ≤ results_room
 unfolding results
-results_fit s =
-    split (λ (x : List ℕ). length (result_head ++ x) ≤ results_room) (eqb (sheet_verdict s).answer 0)
-    (λ y. omega (arith, command_results_length s (verdict_answer_zero s (eqb-true _ _ y))))
-    (λ n. omega (arith, refused_length s))
+results_fit s = by (sheet_verdict s) refl
+  where
+    by : (v : Verdict) → sheet_verdict s ≡ v → length (result_head ++ results_by v s) ≤ results_room
+    by (Ok u) h = omega (arith, command_results_length s h)
+    by (Err e) h = omega (arith, refused_length s e h)
 
 -- the results by the sheet's verdict
 pub results_accepted : (s : List ℕ) → sheet_verdict s ≡ sheet_accepted → results s ≡ result_head ++ command_results s
 unfolding results
 results_accepted s h = rw h
 
-pub results_refused : (s : List ℕ) → ((sheet_verdict s).answer ≡ 0 → ⊥)
-    → results s ≡ result_head ++ result_line (sheet_verdict s).line (sheet_verdict s).answer no_words
+pub results_refused : (s : List ℕ) (e : SheetRefusal) → sheet_verdict s ≡ Err e
+    → results s ≡ result_head ++ result_line (refusal_line e) (refusal_number e) no_words
 unfolding results
-results_refused s h = rw (ne_eqb (sheet_verdict s).answer 0 h)
+results_refused s e h = rw h

@@ -96,7 +96,3 @@ starts_in (b ∷ h) (d ∷ s) e =
 pub starts_front : (h s : List ℕ) → starts_with h (h ++ s) ≡ true
 starts_front [] s = refl
 starts_front (b ∷ h) s = both_true (eqb b b) _ (eq-eqb b b refl) (starts_front h s)
-
-pub drop_front : (h s : List ℕ) → drop (length h) (h ++ s) ≡ s
-drop_front [] s = refl
-drop_front (b ∷ h) s = drop_front h s

@@ -1,27 +1,15 @@
--- A text is compared with its head byte by byte. One that is shorter than the head runs out first, and a head of two
--- parts is one behind the other.
+-- A text that is shorter than a head does not begin with it, and a head of two parts is one behind the other.
 use mathlib.Core.Path.{◌≡◌, refl, ap, ◌∙◌}
 use mathlib.Core.List.{List, [], ◌∷◌, ◌++◌}
-use mathlib.Core.Bool.{Bool, true, false, ◌&&◌, false≢true}
-use Prim.Native.Nat.{ℕ, zero, suc, ◌+◌, ◌≤◌, ◌<◌}
-use native.Mathlib.Numerals.{add-one}
+use mathlib.Core.Bool.{Bool, true, false, false≢true}
+use Prim.Native.Nat.{ℕ, zero, suc, ◌≤◌, ◌<◌}
 use native.Mathlib.Omega.{arith}
 use lib.Dec.{eqb}
-use lib.ListN.{length, get_or, take, drop, length-append}
-use lib.Seq.{drop-cons}
+use lib.ListN.{length, take, drop, length-append}
 use borrow.Author.Tests.{eq-eqb}
 use Rattle.text.specs.Text.{starts_with}
 use Rattle.model.proofs.Laws.Testing.{both, both_true}
 use Rattle.text.proofs.Laws.Splits.{starts_in}
-
--- what all the bytes say, the test of one says with those that are left
-pub starts_turn : {whole same : Bool} (h s : List ℕ) (i : ℕ) → i < length h → length h ≤ length s
-    → eqb (get_or s i 0) (get_or h i 0) ≡ same
-    → starts_with (drop i h) (drop i s) ≡ whole
-    → (same && starts_with (drop (i + 1) h) (drop (i + 1) s)) ≡ whole
-starts_turn h s i k l e here =
-    let m : i < length s = omega arith in
-    rw (← e, add-one) (rw (drop-cons h i 0, drop-cons s i 0) at here)
 
 -- a text has the length of what it starts with
 pub starts_length : (h s : List ℕ) → starts_with h s ≡ true → length h ≤ length s

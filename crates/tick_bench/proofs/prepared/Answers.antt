@@ -6,23 +6,8 @@ use Rattle.tick_bench.proofs.prepared.Goals as goal
 
 pub give-loaded-requires : goal.give-loaded-requires
 give-loaded-requires c =
-    rw (c.command_of.ensures, c.power_on-on.ensures)
+    rw (c.command_of.ensures, c.power_on.ensures)
     (record { on = power_on_valid; no_tick = refl; reads_none = refl })
-
-pub give-steered-requires : goal.give-steered-requires
-give-steered-requires c =
-    rw c.command_of-2.ensures
-    (record { on = c.give-loaded.ensures.keeps; no_tick = refl; reads_none = refl })
-
-pub give-one-requires : goal.give-one-requires
-give-one-requires c =
-    rw c.command_of-3.ensures
-    (record { on = c.give-steered.ensures.keeps; no_tick = refl; reads_none = refl })
-
-pub give-requires : goal.give-requires
-give-requires c =
-    rw c.command_of-4.ensures
-    (record { on = c.give-one.ensures.keeps; no_tick = refl; reads_none = refl })
 
 pub returns : goal.returns
 unfolding engine_by
@@ -36,5 +21,5 @@ returns c =
       c.command_of-2.ensures,
       c.give-loaded.ensures.is,
       c.command_of.ensures,
-      c.power_on-on.ensures,
+      c.power_on.ensures,
     )

@@ -1,22 +1,10 @@
--- A byte that is no separator stands in the first part, so the bytes passed and the part left are the first part.
-use borrow.Author.Rules.{rules}
-use Rattle.text.proofs.Laws.FirstPart.{first_here, first_on, first_none}
+-- The first index at which the separator stands is where the first part ends.
+use mathlib.Core.Path.{ap, ◌∙◌}
+use lib.ListN.{length}
+use Rattle.std.specs.Option.{unwrap_or}
+use Rattle.values.proofs.Runs.{run_position}
 use Rattle.values.proofs.run_length.Goals as goal
-
-pub returns-then-s-i : goal.returns-then-s-i
-returns-then-s-i c =
-    let a = c.args in
-    let here = first_here a.separator a.s.now c.loop-i.i (search rules) c.if-s-i.true in
-    search rules
-
-pub loop-i-preserved : goal.loop-i-preserved
-loop-i-preserved c =
-    let a = c.args in
-    let on = first_on a.separator a.s.now c.loop-i.i (search rules) c.if-s-i.false in
-    search rules
 
 pub returns : goal.returns
 returns c =
-    let a = c.args in
-    let none = first_none a.separator a.s.now c.loop-i.i (search rules) in
-    search rules
+    run_position _ _ _ (c.unwrap_or.ensures ∙ ap (λ o. unwrap_or o (length c.args.s.now)) c.separator_in.ensures)

@@ -1,45 +1,24 @@
 -- Each turn takes the first part that is left into the next place, so the front of what is left always makes up that of
 -- the whole.
 use native.Mathlib.Omega.{arith}
-use borrow.Author.Rules.{rules}
-use borrow.Author.Tests.{not-true, not-false}
-use Rattle.values.proofs.FilledPlaces.{front_start, taken_inside, front_on, front_stop, front_end}
+use lib.ListN.{drop}
+use Rattle.std.proofs.lemmas.List.{set-get_or}
+use Rattle.text.proofs.Laws.FirstPart.{rest_is}
+use Rattle.values.specs.Taking.{TakenFrom}
+use Rattle.values.proofs.FilledPlaces.{front_on, front_stop}
 use Rattle.values.proofs.take_values.Goals as goal
+use Rattle.values.proofs.take_values.Goals.{After-take_value-next}
 
-pub loop-k-init : goal.loop-k-init
-loop-k-init c = front_start _ _
+taken : (c : After-take_value-next) → TakenFrom (drop c.loop-number.at c.args.s.now) c.take_value-next.result
+taken c = rw (rest_is c.args.s.now c.loop-number.at) at c.take_value-next.ensures
 
-pub take_value-next-requires : goal.take_value-next-requires
-take_value-next-requires c = c.loop-k.invariant.inside
+pub returns-in_default : goal.returns-in_default
+returns-in_default c =
+    rw set-get_or
+    (front_stop _ _ (taken (goal.at.returns-in_default c).After-take_value-next) c.loop-number.invariant
+    (omega (arith, c.loop-number.invariant.same, c.loop-number-test.true)) c.in_default.is)
 
-pub returns-then-not-value : goal.returns-then-not-value
-returns-then-not-value c =
-    let stop = front_stop c.take_value-next.ensures c.loop-k.invariant c.loop-k-test.true in
-    stop (not-true _ c.if-not-value.true)
-
-pub offset_bounds-numbers-k : goal.offset_bounds-numbers-k
-offset_bounds-numbers-k c = search rules
-
-pub bounds-numbers-k : goal.bounds-numbers-k
-bounds-numbers-k c = search rules
-
-pub overflow_add-at : goal.overflow_add-at
-overflow_add-at c =
-    let taken = c.take_value-next.ensures in
-    let inside = taken_inside taken (not-false _ c.if-not-value.false) in
-    search rules
-
-pub overflow_add-k : goal.overflow_add-k
-overflow_add-k c = search rules
-
-pub loop-k-smaller : goal.loop-k-smaller
-loop-k-smaller c =
-    omega (arith, c.loop-k-test.true, c.loop-k.invariant.same)
-
-pub loop-k-preserved : goal.loop-k-preserved
-loop-k-preserved c =
-    let on = front_on c.take_value-next.ensures c.loop-k.invariant c.loop-k-test.true in
-    on (not-false _ c.if-not-value.false)
-
-pub returns : goal.returns
-returns c = front_end c.loop-k.invariant c.loop-k-test.false
+pub loop-number-preserved : goal.loop-number-preserved
+loop-number-preserved c =
+    front_on _ _ (taken (goal.at.loop-number-preserved c).After-take_value-next) c.loop-number.invariant
+    (omega (arith, c.loop-number.invariant.same, c.loop-number-test.true)) _ c.in-Some.is

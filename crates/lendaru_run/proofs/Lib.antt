@@ -1,0 +1,2 @@
+-- Why a run's change needs no FIFO moved.
+pub mod Applied

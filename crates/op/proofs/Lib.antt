@@ -1,0 +1,2 @@
+-- What a number that names an op is.
+pub mod Numbered

@@ -1,0 +1,2 @@
+-- The number of each op.
+pub mod Numbers

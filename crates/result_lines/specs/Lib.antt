@@ -1,2 +1,0 @@
--- A result of zeros.
-pub mod Zeros

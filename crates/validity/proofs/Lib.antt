@@ -1,2 +1,0 @@
--- A law that belongs to no one function.
-pub mod Groups
