@@ -1,2 +1,5 @@
 -- Why carries and comparisons by place are what the definitions say on totals.
+pub mod Places
+pub mod Carry
 pub mod Carries
+pub mod CarriesByComparison

@@ -16,6 +16,18 @@ use Rattle.text.proofs.Laws.Digits.{number_grows, decimal_byte, number_in as is_
 use Rattle.text.proofs.Laws.Values.{no_prefix}
 use Rattle.digits.specs.Digits.{digit_after, number_in, base16_in}
 
+-- one digit more, or none
+module _ (base v b : ℕ) where
+  pub no_digit : base ≤ digit_of b → None ≡ digit_after base v b
+  no_digit h = rw (le-ltb (digit_of b) base h) refl
+
+  pub too_large : 2 ^ 64 ≤ v * base + digit_of b → None ≡ digit_after base v b
+  too_large h = rw (le-ltb (v * base + digit_of b) (2 ^ 64) h, and-false (ltb (digit_of b) base)) refl
+
+  pub digit_more : digit_of b < base → v * base + digit_of b < 2 ^ 64
+      → Some (v * base + digit_of b) ≡ digit_after base v b
+  digit_more h l = rw (lt-ltb (digit_of b) base h, lt-ltb (v * base + digit_of b) (2 ^ 64) l) refl
+
 -- what v becomes when digits of a base are written after it one by one, while it stays below 2^64
 abbrev pub read_after : (base v : ℕ) → List ℕ → Option ℕ
 read_after base v [] = Some v

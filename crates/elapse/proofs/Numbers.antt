@@ -60,6 +60,45 @@ product_fits j h =
     let a : j.amount ≤ 2 ^ 40 - 1 = omega arith in
     omega (arith, mul-le-mul c a)
 
+-- what the cycles bring: PERIOD's amount where no adjustment runs, and else by the phase of the last
+module _ (s : Steering) (n : ℕ) where
+  pub in_none : steering_ok s ≡ true → s.adjustment.cycles ≡ 0 → amount_of s n ≡ n * s.period
+  unfolding amount_of
+  in_none h z =
+      let none = (steering_in s h).behind z in
+      let first : min n s.adjustment.cycles ≡ 0 = omega arith in
+      let second : min (n - s.adjustment.cycles) s.waiting.cycles ≡ 0 = omega arith in
+      let all : n - s.adjustment.cycles - s.waiting.cycles ≡ n = omega arith in
+      rw (first, second, all) (omega arith)
+
+  pub in_first : n ≤ s.adjustment.cycles → amount_of s n ≡ n * s.adjustment.amount
+  unfolding amount_of
+  in_first h =
+      let all : min n s.adjustment.cycles ≡ n = omega arith in
+      let none : n - s.adjustment.cycles ≡ 0 = omega arith in
+      let second : min 0 s.waiting.cycles ≡ 0 = omega arith in
+      let third : 0 - s.waiting.cycles ≡ 0 = omega arith in
+      rw (all, none, second, third) (omega arith)
+
+  pub in_second_lem : s.adjustment.cycles ≤ n → n - s.adjustment.cycles ≤ s.waiting.cycles
+      → amount_of s n ≡ s.adjustment.cycles * s.adjustment.amount + (n - s.adjustment.cycles) * s.waiting.amount
+  unfolding amount_of
+  in_second_lem h l =
+      let first : min n s.adjustment.cycles ≡ s.adjustment.cycles = omega arith in
+      let all : min (n - s.adjustment.cycles) s.waiting.cycles ≡ n - s.adjustment.cycles = omega arith in
+      let third : n - s.adjustment.cycles - s.waiting.cycles ≡ 0 = omega arith in
+      rw (first, all, third) (omega arith)
+
+  pub in_third : s.adjustment.cycles ≤ n → s.waiting.cycles ≤ n - s.adjustment.cycles
+      → amount_of s n
+      ≡ s.adjustment.cycles * s.adjustment.amount + s.waiting.cycles * s.waiting.amount
+      + (n - s.adjustment.cycles - s.waiting.cycles) * s.period
+  unfolding amount_of
+  in_third h l =
+      let first : min n s.adjustment.cycles ≡ s.adjustment.cycles = omega arith in
+      let second : min (n - s.adjustment.cycles) s.waiting.cycles ≡ s.waiting.cycles = omega arith in
+      rw (first, second) (omega arith)
+
 -- the clock of a time within a second, and of one in the next
 pub clock_parts : (s y c : ℕ) → c * second ≤ y → y < (c + 1) * second
     → clock_at_exact (s * second + y)

@@ -1,6 +1,8 @@
 -- What becomes of an edge in the words of the model, and an edge that is not stored leaves the FIFO as it was.
 use Rattle.std.proofs.Common.{ℕ, ◌≡◌, refl, Bool, true, false, ◌&&◌, ◌||◌, not, cond, eqb, leb}
 use Rattle.std.proofs.Common.{arith}
+use mathlib.Core.Path.{sym}
+use mathlib.Core.Bool.{false≢true}
 use Rattle.std.proofs.lemmas.Bool.Decides.{nat_tests}
 use Rattle.model.specs.declared.Fifo.{Fifo}
 use Rattle.model.specs.Fifo.{is_empty, is_full, captured, captures_first, overflows}
@@ -24,6 +26,10 @@ dropped_where : (none full empty : Bool) → is_dropped (arrives none full empty
 dropped_where true full empty = refl
 dropped_where false true empty = refl
 dropped_where false false empty = refl
+
+first_of : (b : Bool) (x y : Fifo) → not b ≡ false → cond b x y ≡ x
+first_of true x y h = refl
+first_of false x y h = absurd (false≢true (sym h))
 
 module _ (f : Fifo) (code : ℕ) where
   pub stored_where_free : is_stored (arrival_of f code) ≡ not (eqb code 0 || is_full f)

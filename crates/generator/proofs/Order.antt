@@ -16,7 +16,7 @@ use Rattle.model.specs.Generator.{is_before, pending_total}
 use Rattle.generator.specs.Advance.{Comparable}
 
 -- two tests are the same where each side of one gives the same side of the other
-same_test : (a b m n : ℕ) → (a < b → m < n) → (b ≤ a → n ≤ m) → ltb a b ≡ ltb m n
+pub same_test : (a b m n : ℕ) → (a < b → m < n) → (b ≤ a → n ≤ m) → ltb a b ≡ ltb m n
 same_test a b m n below above = go (dec_lt a b)
   where
     go : Dec (a < b) → ltb a b ≡ ltb m n

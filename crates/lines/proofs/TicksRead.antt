@@ -71,16 +71,17 @@ module _ (s : List ℕ) (b : Begun) where
       by false true p q e = let same : record { op = 10; from = 3 } ≡ b = cc in subst P same (g q)
       by false false p q e = cc
 
-  pub begun_room : Some b ≡ begun_in s → b.from ≤ length s
-  begun_room is = by_begun (λ x. x.from ≤ length s) is nine ten
+  -- there is room for the 15 bytes that belong behind the number
+  pub begun_room : Some b ≡ begun_in s → b.from + 15 ≤ length s
+  begun_room is = by_begun (λ x. x.from + 15 ≤ length s) is nine ten
     where
       long : (word : List ℕ) → begins word s ≡ true → 18 ≤ length s
       long word h = leb-true 18 (length s) (both (leb 18 (length s)) (starts_with word s) h).0
 
-      nine : begins (bytes "9,") s ≡ true → 2 ≤ length s
+      nine : begins (bytes "9,") s ≡ true → 2 + 15 ≤ length s
       nine h = omega (arith, long (bytes "9,") h)
 
-      ten : begins (bytes "10,") s ≡ true → 3 ≤ length s
+      ten : begins (bytes "10,") s ≡ true → 3 + 15 ≤ length s
       ten h = omega (arith, long (bytes "10,") h)
 
   -- the line end is within the text

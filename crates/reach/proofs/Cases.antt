@@ -2,8 +2,9 @@
 -- one has it where the stretch brings what is missing. And those of the end of time.
 use Prim.Native.Nat.{ℕ, ◌+◌, ◌*◌, ◌-◌, ◌≤◌, ◌<◌, ◌^◌}
 use mathlib.Core.Path.{◌≡◌, ap}
-use mathlib.Core.Bool.{true, not, and-false}
+use mathlib.Core.Bool.{true, false, ◌&&◌, not, and-false}
 use native.Mathlib.Omega.{arith}
+use lib.Dec.{eqb, leb}
 use Rattle.std.specs.Prelude.{Some, None}
 use borrow.Author.Tests.{eq-eqb, ne_eqb, le-leb, lt-leb}
 use Rattle.model.specs.declared.Clock.{Clock}
@@ -72,3 +73,13 @@ module _ (k : Clock) (s : Steering) (n amount : ℕ) where
       → ticks_in_time k s n amount ≡ cycles_to s (second - in_second k) - 1
   unfolding ticks_in_time
   past_last e h = rw (eq-eqb k.seconds (2 ^ 48 - 1) e, le-leb second (in_second k + amount) h)
+
+  pub all_in_time : (eqb k.seconds (2 ^ 48 - 1) && leb second (in_second k + amount)) ≡ false
+      → ticks_in_time k s n amount ≡ n
+  unfolding ticks_in_time
+  all_in_time h = rw h
+
+  pub some_in_time : (eqb k.seconds (2 ^ 48 - 1) && leb second (in_second k + amount)) ≡ true
+      → ticks_in_time k s n amount ≡ cycles_to s (second - in_second k) - 1
+  unfolding ticks_in_time
+  some_in_time h = rw h

@@ -26,17 +26,24 @@ same_start [] s = refl
 same_start (b ∷ h) [] = refl
 same_start (b ∷ h) (c ∷ s) = rw (eq_turned b c, same_start h s) refl
 
-pub head_passed : (first s : List ℕ) → head_verdict first s ≡ sheet_accepted
-    → (length first ≤ length s) × (length s ≤ 65536)
+pub head_starts : (first s : List ℕ) → head_verdict first s ≡ sheet_accepted
+    → (length s ≤ 65536) × (starts_with first s ≡ true)
 unfolding head_verdict
-head_passed first s h = by (ltb 65536 (length s)) (starts_with first s) refl refl h
+head_starts first s h = by (ltb 65536 (length s)) (starts_with first s) refl refl h
   where
     by : (over starts : Bool) → ltb 65536 (length s) ≡ over → starts_with first s ≡ starts
         → cond over (Err TooLong) (cond starts sheet_accepted (Err FirstLine)) ≡ sheet_accepted
-        → (length first ≤ length s) × (length s ≤ 65536)
+        → (length s ≤ 65536) × (starts_with first s ≡ true)
     by true starts p q h = cc
     by false false p q h = cc
-    by false true p q h = (starts_length first s q, ltb-false _ _ p)
+    by false true p q h = (ltb-false _ _ p, q)
+
+-- so there is room for that line
+pub head_passed : (first s : List ℕ) → head_verdict first s ≡ sheet_accepted
+    → (length first ≤ length s) × (length s ≤ 65536)
+head_passed first s h =
+    let passed = head_starts first s h in
+    (starts_length first s passed.1, passed.0)
 
 -- the command sheet is judged by its head, and then by its lines
 pub by_head : (s : List ℕ)

@@ -1,15 +1,16 @@
 -- A number of eight bytes tells each of them: a number of two halves tells both where the lower one is below the upper
 -- one's unit, and bytes are below 256.
 use Prim.Native.Nat.{ℕ, ◌+◌, ◌/◌, ◌%◌, ◌≤◌, ◌<◌}
-use mathlib.Core.Path.{◌≡◌, refl}
+use mathlib.Core.Path.{◌≡◌, refl, sym}
 use mathlib.Core.Bool.{Bool, true, false}
 use mathlib.Core.List.{List, [], ◌∷◌, ◌++◌}
 use native.Mathlib.Numerals.{add-one}
 use native.Mathlib.Nat.{add-zero}
 use native.Mathlib.Omega.{arith}
+use lib.Dec.{eqb}
 use lib.ListN.{length, get_or, drop, length-drop}
 use lib.Seq.{drop-cons}
-use borrow.Author.Tests.{eqb-true, eq-eqb}
+use borrow.Author.Tests.{eqb-true, eqb-false, eq-eqb}
 use Rattle.text.specs.Text.{bytes, starts_with}
 use Rattle.model.proofs.Laws.Testing.{both}
 use Rattle.values.specs.Bytes.{pair_at, four_at, eight_at}
@@ -130,3 +131,22 @@ module _ (s : List ℕ) (fits : (i : ℕ) → get_or s i 0 < 256) where
       let low = four_below at in
       bytes_join (four_bytes (n / 4294967296)) s (four_bytes (n % 4294967296)) at (four_bytes_lem at _ (omega arith))
       (four_bytes_lem (at + 4) _ (omega arith))
+
+  tick_starts : (at : ℕ) → at + 18 ≤ length s → TickAt s at → starts_with tick_line (drop at s) ≡ true
+  tick_starts at l e =
+      let four = bytes "0,0,0,0," in
+      let halves = bytes_join four s four at (eight_bytes_lem at _ e.first) (eight_bytes_lem (at + 8) _ e.second) in
+      let next : at + 16 + 1 ≡ at + 17 = omega arith in
+      starts_at tick_line s at l (bytes_join (bytes "0\n") s (four ++ four) at halves (e.last, (rw next e.end, tt)))
+
+  -- once the bytes before it agree, the last one decides
+  pub tick_end : (at : ℕ) → at + 18 ≤ length s
+      → eight_at s at ≡ four_zeros → eight_at s (at + 8) ≡ four_zeros → get_or s (at + 16) 0 ≡ 48
+      → eqb (get_or s (at + 17) 0) 10 ≡ starts_with tick_line (drop at s)
+  tick_end at l first second last = go (eqb (get_or s (at + 17) 0) 10) refl
+    where
+      go : (t : Bool) → eqb (get_or s (at + 17) 0) 10 ≡ t → t ≡ starts_with tick_line (drop at s)
+      go true e =
+          let end = eqb-true _ 10 e in
+          sym (tick_starts at l (record { first = first; second = second; last = last; end = end }))
+      go false e = sym (no_tick s at (λ h. eqb-false _ 10 e h.end))

@@ -74,22 +74,32 @@ result_lines_length (c ∷ cs) e k h =
 
 -- ---- a refused sheet
 
--- a refusal stands in a line whose number has at most five digits
-abbrev Judged : Verdict → Type 0
-Judged (Ok u) = Unit {0}
-Judged (Err e) = refusal_line e < 100000
-
-body_judged : (k : ℕ) (ls : List (List ℕ)) → k + length ls ≤ 100000 → Judged (body_verdict k ls)
-body_judged k [] h = tt
-body_judged k (l ∷ []) h = split Judged (eqb (length l) 0) (λ y. tt) (λ n. omega arith)
-body_judged k (l ∷ m ∷ ls) h =
-    split Judged (is_line l) (λ y. body_judged (k + 1) (m ∷ ls) (omega arith)) (λ n. omega arith)
-
--- and has a number of one digit
+-- a refusal has a number of one digit, which is not 0
 number_small : (e : SheetRefusal) → refusal_number e < 10
 number_small TooLong = omega arith
 number_small FirstLine = omega arith
 number_small (ValueLine line) = omega arith
+
+pub number_some : (e : SheetRefusal) → 0 < refusal_number e
+number_some TooLong = omega arith
+number_some FirstLine = omega arith
+number_some (ValueLine line) = omega arith
+
+-- and stands in a line whose number has at most five digits
+abbrev Judged : Verdict → Type 0
+Judged (Ok u) = Unit {0}
+Judged (Err e) = (refusal_line e < 100000) × (0 < refusal_number e) × (refusal_number e < 10)
+
+refused_judged : (e : SheetRefusal) → refusal_line e < 100000 → Judged (Err e)
+refused_judged e h = (h, number_some e, number_small e)
+
+body_judged : (k : ℕ) (ls : List (List ℕ)) → k + length ls ≤ 100000 → Judged (body_verdict k ls)
+body_judged k [] h = tt
+body_judged k (l ∷ []) h =
+    split Judged (eqb (length l) 0) (λ y. tt) (λ n. refused_judged (ValueLine k) (omega arith))
+body_judged k (l ∷ m ∷ ls) h =
+    split Judged (is_line l) (λ y. body_judged (k + 1) (m ∷ ls) (omega arith))
+    (λ n. refused_judged (ValueLine k) (omega arith))
 
 -- a text has at most one part more than bytes
 parts_few : (separator : ℕ) (bs : List ℕ) → length (parts separator bs) ≤ length bs + 1
@@ -105,19 +115,30 @@ parts_few separator (b ∷ bs) = by (eqb b separator) (parts separator bs) (part
 verdict_judged : (s : List ℕ) → Judged (sheet_verdict s)
 unfolding command_sheet
 verdict_judged s =
-    by_head Judged command_sheet s (omega arith) (omega arith)
+    by_head Judged command_sheet s (refused_judged TooLong (omega arith)) (refused_judged FirstLine (omega arith))
     (λ short starts. body_judged 2 (parts line_end (drop 19 s)) (few short))
   where
     few : length s ≤ 65536 → 2 + length (parts line_end (drop 19 s)) ≤ 100000
     few h = omega (arith, parts_few line_end (drop 19 s), length-drop 19 s)
 
+-- the number that is told of a verdict: 0 of an accepted sheet, and of no other
+abbrev pub verdict_number : Verdict → ℕ
+verdict_number (Ok u) = 0
+verdict_number (Err e) = refusal_number e
+
+pub verdict_answer_zero : (s : List ℕ) → verdict_number (sheet_verdict s) ≡ 0 → sheet_verdict s ≡ sheet_accepted
+verdict_answer_zero s = by (sheet_verdict s) (verdict_judged s)
+  where
+    by : (v : Verdict) → Judged v → verdict_number v ≡ 0 → v ≡ sheet_accepted
+    by (Ok u) j h = refl
+    by (Err e) j h = absurd (omega (arith, j.1, h))
+
 pub refused_length : (s : List ℕ) (e : SheetRefusal) → sheet_verdict s ≡ Err e
     → length (result_line (refusal_line e) (refusal_number e) no_words) ≤ 38
 refused_length s e h =
-    let line : refusal_line e < 100000 = rw h at (verdict_judged s) in
-    let number = number_small e in
-    let five = length_below 5 (refusal_line e) (omega arith) (omega arith) (omega arith) in
-    let one = length_below 1 (refusal_number e) (omega arith) (omega arith) (omega arith) in
+    let j : Judged (Err e) = rw h at (verdict_judged s) in
+    let five = length_below 5 (refusal_line e) (omega arith) j.0 (omega (arith, j.0)) in
+    let one = length_below 1 (refusal_number e) (omega arith) j.2 (omega (arith, j.2)) in
     line_fits (refusal_line e) (refusal_number e) no_words (omega arith) no_words_in
 
 -- ---- every sheet
