@@ -10,6 +10,7 @@ use borrow.Author.Tests.{eq-eqb, le-ltb}
 use Rattle.model.specs.declared.Engine.{Engine}
 use Rattle.model.specs.declared.Command.{Command}
 use Rattle.model.specs.declared.Outcome.{Outcome}
+use Rattle.model.specs.Outcome.{refused}
 use Rattle.model.specs.Ops.{ops, unknown, performed}
 use Rattle.model.specs.Ranges.{valid}
 use Rattle.model.specs.Checks.{checks, answer_of, reads_fifo}
@@ -25,9 +26,14 @@ use Rattle.change.specs.declared.refusal.Refusal.{Refusal}
 use Rattle.change.specs.declared.refusal.Refusal.TheVariants.{Record, Op}
 use Rattle.change.specs.Changes.{outcome_of, Gives}
 use Rattle.change.proofs.Given.{refusal_gives, others_still}
-use Rattle.engine.specs.Stepped.{Stepped}
+use Rattle.op.specs.declared.Op.{Op as OpName}
+use Rattle.engine.specs.Stepped.{Performing, Stepped}
 
 module _ (e : Engine) (c : Command) where
+  -- an op that is none of 0 to 7 is the last arm's
+  pub last_op : {op : OpName} → Performing e c op → 8 ≤ c.op → c.op ≡ 8
+  last_op start past = omega (arith, start.few)
+
   -- an op is its row of the table; one that is neither 0 nor 2 moves no FIFO
   pub row_gives : {m : Change} (n : ℕ) → c.op ≡ n → Gives e c (get_or ops n unknown e c) (Ok m)
       → Gives e c (performed e c) (Ok m)
@@ -73,6 +79,10 @@ module _ (e : Engine) (c : Command) where
   unknown_gives v h =
       let none = le-ltb c.op 13 (omega arith) in
       refusal_gives e c Op (rw (v, none) refl)
+
+  pub malformed : valid e ≡ false → refused e 4 ≡ execute e c
+  unfolding execute answer_of checks
+  malformed h = rw h
 
   pub malformed_gives : valid e ≡ false → Gives e c (execute e c) (Err Record)
   unfolding answer_of checks

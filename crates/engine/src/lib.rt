@@ -14,9 +14,7 @@ ghost use Rattle.change.specs.Changes.{fifos_moved, moves_fifo, Gives};
 ghost use Rattle.engine.specs.Stepped.{Performing, Stepped};
 
 use change::{Change, Refusal, apply};
-use model::{
-    Adjustment, Clock, Command, Engine, Fifo, Generator, Interrupts, Outcome, Steering, Words,
-};
+use model::{Adjustment, Clock, Command, Engine, Interrupts, Outcome, Steering, Words};
 use op::Op;
 
 // Time 0, PERIOD 8 ns, both masks and all words 0, everything else empty.
@@ -24,6 +22,8 @@ use op::Op;
 pub fn power_on() -> Engine
     ensures { result ≡ power_on }
 {
+    let empty = fifo::empty_fifo();
+    let idle = generator::idle_generator();
     Engine {
         clock: Clock::default(),
         steering: Steering {
@@ -31,13 +31,13 @@ pub fn power_on() -> Engine
             adjustment: Adjustment::default(),
             waiting: Adjustment::default(),
         },
-        fifo1: Fifo::default(),
-        fifo2: Fifo::default(),
-        fifo3: Fifo::default(),
-        generator1: Generator::default(),
-        generator2: Generator::default(),
+        fifo1: empty,
+        fifo2: empty,
+        fifo3: empty,
+        generator1: idle,
+        generator2: idle,
         interrupts: Interrupts::default(),
-        words: Words::default(),
+        words: words::no_words(),
     }
 }
 
@@ -101,11 +101,15 @@ pub fn move_fifos(e: Engine, c: Command) -> Engine
     }
 }
 
-// The record with a command's change made: its FIFOs moved where one moves, then the parts of the change.
-pub fn settle(mut e: Engine, c: Command, m: Change) -> Engine
-    requires { Gives e c (execute_spec e c) (Ok m) }
+// The record with a command's change made: its FIFOs moved where one moves, then the parts of the change. A refusal
+// leaves it as it was.
+pub fn settle(mut e: Engine, c: Command, change: Result<Change, Refusal>) -> Engine
+    requires { Gives e c (execute_spec e c) change }
     ensures { result ≡ (execute_spec e c).engine }
 {
+    let Ok(m) = change else {
+        return e;
+    };
     if m.moves {
         e = move_fifos(e, c);
     }
@@ -128,11 +132,12 @@ pub fn step(e: Engine, c: Command) -> Outcome
     requires { valid e ≡ true }
     ensures { Stepped e c result }
 {
-    match change_by(e, c) {
+    let change = change_by(e, c);
+    match change {
         Ok(m) => Outcome {
             answer: 0,
             values: m.values,
-            engine: settle(e, c, m),
+            engine: settle(e, c, change),
         },
         Err(refusal) => refused(e, refusal),
     }

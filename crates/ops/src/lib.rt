@@ -31,7 +31,7 @@ fn just_first(v: u64) -> Words
 fn silent(e: Engine) -> Change
     ensures { result ≡ change_to no_words e false }
 {
-    change_to(Words::default(), e, false)
+    change_to(words::no_words(), e, false)
 }
 
 // Op 1, load words.
@@ -45,7 +45,7 @@ pub fn load_words(e: Engine, c: Command) -> Change
         w4: c.d,
         w5: c.e,
     };
-    silent(Engine { words, ..e })
+    silent(record::with_words(e, words))
 }
 
 // Op 2, write 0: TIME clears fraction and remainder and stops both generators.
@@ -53,12 +53,9 @@ fn write_time(e: Engine) -> Engine
     requires { WordsRange e.words }
     ensures { result ≡ time_written e }
 {
-    Engine {
-        clock: clock::set_clock(words::seconds_in(e.words), words::nanoseconds_in(e.words)),
-        generator1: Generator::default(),
-        generator2: Generator::default(),
-        ..e
-    }
+    let k = clock::set_clock(words::seconds_in(e.words), words::nanoseconds_in(e.words));
+    let idle = generator::idle_generator();
+    record::with_generators(record::with_clock(e, k), idle, idle)
 }
 
 // Op 2, write 1: PERIOD. The remainder stays.
@@ -70,7 +67,7 @@ fn write_period(e: Engine) -> Engine
         period: words::amount_in(e.words),
         ..e.steering
     };
-    Engine { steering, ..e }
+    record::with_steering(e, steering)
 }
 
 // Op 2, write 2: the adjustment.
@@ -79,7 +76,7 @@ fn write_adjustment(e: Engine) -> Engine
     ensures { result ≡ adjust_written e }
 {
     let steering = clock::adjust(e.steering, words::adjustment_in(e.words));
-    Engine { steering, ..e }
+    record::with_steering(e, steering)
 }
 
 // Op 2, the write by its selector; 16 writes nothing.
@@ -129,7 +126,7 @@ pub fn command(e: Engine, c: Command) -> Change
         return silent(now);
     }
     let words = read_words(e, now.clock, c.b);
-    change_to(words, Engine { words, ..now }, c.b != 0)
+    change_to(words, record::with_words(now, words), c.b != 0)
 }
 
 // Op 2, the record without the oldest timestamp of a FIFO. In place, since `..e` copies a lent record.
@@ -169,7 +166,7 @@ pub fn arm(e: Engine, c: Command) -> Change
 pub fn stop(e: Engine, c: Command) -> Change
     ensures { result ≡ change_to no_words (with_generator e c.a idle_generator) false }
 {
-    silent(record::with_generator(e, c.a, Generator::default()))
+    silent(record::with_generator(e, c.a, generator::idle_generator()))
 }
 
 // Op 5, read interrupts: the bits are returned, then all cleared.
@@ -183,7 +180,11 @@ pub fn read_interrupts(e: Engine) -> Change
         latched: 0,
         ..e.interrupts
     };
-    change_to(just_first(word), Engine { interrupts, ..e }, false)
+    change_to(
+        just_first(word),
+        record::with_interrupts(e, interrupts),
+        false,
+    )
 }
 
 // Op 6, set the enable mask.
@@ -194,7 +195,7 @@ pub fn set_mask(e: Engine, c: Command) -> Change
         enabled: c.a,
         ..e.interrupts
     };
-    silent(Engine { interrupts, ..e })
+    silent(record::with_interrupts(e, interrupts))
 }
 
 // Op 7, read status.

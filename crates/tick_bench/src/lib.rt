@@ -50,7 +50,7 @@ fn turn(run: Run, c: Command) -> Run
 {
     match tick::tick(run.engine, c) {
         Ok(m) => Run {
-            engine: engine::settle(run.engine, c, m),
+            engine: engine::settle(run.engine, c, Ok(m)),
             told: run.told | m.values.w1 | m.values.w2,
         },
         Err(refusal) => Run {

@@ -1,6 +1,6 @@
 -- One arm for each row of the table of ops but those of ticks, runs and the like; an accepted op with no arm of its own
 -- is ShowWords. None but Command moves a FIFO.
-use mathlib.Core.Path.{refl, sym, ap, ◌∙◌}
+use mathlib.Core.Path.{refl}
 use native.Mathlib.Omega.{arith}
 use borrow.Author.Tests.{eqb-false}
 use Prim.Native.Nat.{◌≤◌}

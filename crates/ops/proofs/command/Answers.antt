@@ -19,6 +19,7 @@ pub returns : goal.returns
 returns c =
     rw (
       c.change_to.ensures,
+      c.with_words.ensures,
       c.read_words-words.ensures,
       c.write-now.ensures,
     ) (read_gives _ _ c.requires (ne_eqb _ _ c.if-c-eq8.false))
