@@ -165,7 +165,9 @@ fn print_file(rt: &(impl Files + Print), name: &str) -> io::Result<()> {
     Ok(())
 }
 
-// Results in a writer that is not standard output: a file, which is printed behind its name.
+// Results in a writer that is not standard output: a file, which is printed behind its name. It stands by itself, since
+// within main its buffers would lie on the stack beside those of every other sheet.
+#[inline(never)]
 fn results_in_a_file(rt: &(impl Files + Print + Eprint)) -> io::Result<()> {
     let mut sheet = File::open(rt, "example_whole.csv")?;
     let mut results = File::create(rt, "results_of_example_whole")?;

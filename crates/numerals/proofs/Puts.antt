@@ -6,7 +6,7 @@ use mathlib.Core.List.{List, [], ◌∷◌, ◌++◌, append_assoc}
 use native.Mathlib.Numerals.{add-one}
 use native.Mathlib.Nat.{add-zero, add_assoc, le_refl}
 use native.Mathlib.Omega.{arith}
-use lib.ListN.{length, set, length-append, take-append-drop}
+use lib.ListN.{length, set, length-set, length-append, take-append-drop}
 use lib.Seq.{take-length, drop-drop, set_split, paste, length-paste, take-paste, drop-paste}
 use Rattle.numerals.specs.declared.TextWriter.{TextWriter}
 use Rattle.numerals.specs.Written.{put, Written, HasRoom, AppendsText}
@@ -35,6 +35,9 @@ put_put out a b at fits =
     rw (put_paste out a at, take-paste out at a n start (le_refl n), ← drop-drop (length b) (at + n), last)
     (rw (drop-drop, take-length, length-append, add_assoc) (simp append_assoc))
 
+pub written_byte : (out : List ℕ) (at b : ℕ) → at < length out → Written out (set out at b) at (b ∷ []) (at + 1)
+written_byte out at b h = record { end = refl; holds = put_one out at b h }
+
 pub written_then : {before middle after a b : List ℕ} {at next end : ℕ} → Written before middle at a next
     → Written middle after next b end
     → at + length a ≤ length before
@@ -43,6 +46,13 @@ written_then {before} {a} {b} {at} first second fits = record {
   end = rw length-append (omega arith);
   holds = second.holds ∙ rw (first.holds, first.end) (put_put before a b at fits);
 }
+
+pub written_bytes : (out : List ℕ) (at a b : ℕ) → at + 2 ≤ length out
+    → Written out (set (set out at a) (at + 1) b) at (a ∷ b ∷ []) (at + 2)
+written_bytes out at a b room =
+    let first = written_byte out at a (omega arith) in
+    let second = written_byte (set out at a) (at + 1) b (rw length-set (omega arith)) in
+    record { end = refl; holds = (written_then first second (omega arith)).holds }
 
 pub appends_then : {before middle after : TextWriter} {a b : List ℕ} → AppendsText before middle a
     → AppendsText middle after b

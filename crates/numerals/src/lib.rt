@@ -2,10 +2,10 @@
 // what stands there, and leaves every other byte as it was. Document 01, "Command sheet".
 #![tactic(auto)]
 
-ghost use Rattle.std.specs.Prelude.{◌<◌, [], ◌∷◌};
+ghost use Rattle.std.specs.Prelude.{◌+◌, ◌<◌, ◌≤◌, [], ◌∷◌, length};
 ghost use Rattle.text.specs.Text.{decimal};
 ghost use Rattle.numerals.specs.Pair.{pair};
-ghost use Rattle.numerals.specs.Written.{HasRoom, AppendsText};
+ghost use Rattle.numerals.specs.Written.{Written, HasRoom, AppendsText};
 
 // A text that is being written into a lent buffer, and the index behind what is written of it.
 #[derive(Drop)]
@@ -48,8 +48,23 @@ impl TextWriter<'_> {
         }
     }
 
-    // A number; line numbers have up to four digits, and words up to five.
-    pub fn put_number(&mut self, n: u64)
+    // A number of any size: its tenth, then its last digit.
+    fn put_decimal(&mut self, n: u64)
+        requires { HasRoom self.old (decimal n) }
+        ensures { AppendsText self.old self.new (decimal n) }
+    {
+        if n < 10 {
+            self.put_byte(b'0' + n as u8);
+        } else {
+            self.put_decimal(n / 10);
+            self.put_byte(b'0' + (n % 10) as u8);
+        }
+    }
+
+    // A number; line numbers have up to four digits, and words up to five. What is longer goes through a writer of its
+    // own, since one whose address a call takes stands in memory, the short numbers' too.
+    #[inline(always)]
+    fn put_digits(&mut self, n: u64)
         requires { HasRoom self.old (decimal n) }
         ensures { AppendsText self.old self.new (decimal n) }
     {
@@ -58,10 +73,36 @@ impl TextWriter<'_> {
         } else if n < 10000 {
             self.put_short(n / 100);
             self.put_pair(n % 100);
-        } else {
-            self.put_number(n / 10000);
+        } else if n < 100000 {
+            self.put_short(n / 10000);
             self.put_pair(n / 100 % 100);
             self.put_pair(n % 100);
+        } else {
+            let mut long = TextWriter {
+                out: &mut *self.out,
+                end: self.end,
+            };
+            long.put_decimal(n);
+            self.end = long.end;
         }
     }
+
+    // A number.
+    #[inline(always)]
+    pub fn put_number(&mut self, n: u64)
+        requires { HasRoom self.old (decimal n) }
+        ensures { AppendsText self.old self.new (decimal n) }
+    {
+        self.end = number_at(&mut *self.out, self.end, n);
+    }
+}
+
+// A number at an index: the index behind it. Slice and index are handed over in registers, a writer through memory.
+fn number_at(out: &mut [u8], at: usize, n: u64) -> usize
+    requires { at + length (decimal n) ≤ length out.old }
+    ensures { Written out.old out.new at (decimal n) result }
+{
+    let mut writer = TextWriter { out, end: at };
+    writer.put_digits(n);
+    writer.end
 }

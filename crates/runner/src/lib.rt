@@ -33,16 +33,19 @@ fn put_results(s: &[u8], writer: &mut TextWriter<'_>)
         let Some(command) = next.line else {
             return;
         };
-        match engine::change_by(e, command) {
-            Ok(change) => {
-                if change.moves {
-                    e = engine::move_fifos(e, command);
-                }
-                e = change::apply(e, change);
-                put_result(writer, line, 0, change.values);
-            }
-            Err(refusal) => put_result(writer, line, refusal.number(), Words::default()),
+        // A refusal is the change that changes nothing: with one path for both the compiler leaves the FIFOs in place.
+        let (answer, change) = match engine::change_by(e, command) {
+            Ok(change) => (0, change),
+            Err(refusal) => (
+                refusal.number(),
+                change::change_to(Words::default(), e, false),
+            ),
+        };
+        if change.moves {
+            e = engine::move_fifos(e, command);
         }
+        e = change::apply(e, change);
+        put_result(writer, line, answer, change.values);
         rest = &rest[next.end + 1..];
         line += 1;
     }

@@ -69,6 +69,15 @@ fn results_of(sheet: &[u8], out: &mut [u8]) -> usize
     runner::run_sheet(sheet, out)
 }
 
+// The results of a sheet to a writer. The buffer stands here alone, so that it is zeroed once.
+fn write_results_of<W: Write>(sheet: &[u8], output: &mut W) -> io::Result<()>
+    ensures { OnOk result (Appends (W.contents output.old) (W.contents output.new) (results_spec sheet.now)) }
+{
+    let mut results = [0u8; 138309];
+    let length = results_of(sheet, &mut results);
+    output.write_all(&results[..length])
+}
+
 // Runs the sheet that a reader gives, and writes its results to a writer. No more is read than number 1 needs.
 pub fn write_results<R: Read, W: Write>(input: &mut R, output: &mut W) -> Result<(), Failure>
     ensures written { OnOk result (IfSome (R.remaining input.old) (λ sheet.
@@ -80,11 +89,7 @@ pub fn write_results<R: Read, W: Write>(input: &mut R, output: &mut W) -> Result
 {
     let mut sheet = [0u8; 65537];
     let count = read_until_full(input, &mut sheet).map_err(Failure::NotRead)?;
-    let mut results = [0u8; 138309];
-    let length = results_of(&sheet[..count], &mut results);
-    output
-        .write_all(&results[..length])
-        .map_err(Failure::NotWritten)?;
+    write_results_of(&sheet[..count], output).map_err(Failure::NotWritten)?;
     Ok(())
 }
 

@@ -18,7 +18,8 @@ pub fn put_bytes(writer: &mut TextWriter<'_>, text: &[u8])
 }
 
 // A line of numbers with commas between them.
-pub fn put_row(writer: &mut TextWriter<'_>, numbers: &[u64])
+#[inline(always)]
+fn put_numbers(writer: &mut TextWriter<'_>, numbers: &[u64])
     requires { HasRoom writer.old (row numbers.now) }
     ensures { AppendsText writer.old writer.new (row numbers.now) }
 {
@@ -30,4 +31,17 @@ pub fn put_row(writer: &mut TextWriter<'_>, numbers: &[u64])
         }
     }
     writer.put_byte(b'\n');
+}
+
+// The same through a writer of its own, which stays in registers over the whole line.
+pub fn put_row(writer: &mut TextWriter<'_>, numbers: &[u64])
+    requires { HasRoom writer.old (row numbers.now) }
+    ensures { AppendsText writer.old writer.new (row numbers.now) }
+{
+    let mut line = TextWriter {
+        out: &mut *writer.out,
+        end: writer.end,
+    };
+    put_numbers(&mut line, numbers);
+    writer.end = line.end;
 }

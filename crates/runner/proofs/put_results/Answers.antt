@@ -9,7 +9,7 @@ use Rattle.engine.proofs.Steps.{gives_stepped}
 use Rattle.text.proofs.Laws.FirstPart.{rest_is}
 use Rattle.runner.proofs.Turns.{sheet_long, run_start, line_inside, line_room, run_on, run_end}
 use Rattle.runner.proofs.put_results.Goals as goal
-use Rattle.runner.proofs.put_results.Goals.{in-Ok, then-change, else-change, in-Err}
+use Rattle.runner.proofs.put_results.Goals.{in-Ok, in-Err, then-change, else-change}
 
 pub slice_bounds-rest-count : goal.slice_bounds-rest-count
 slice_bounds-rest-count c = sheet_long c.args.s.now c.requires.s_value
@@ -27,14 +27,15 @@ returns-in_default c = run_end c.loop-command.invariant c.next_line-next.ensures
 pub put_result-requires : goal.put_result-requires
 put_result-requires c =
     let run = c.loop-command.invariant in
-    line_room run c.next_line-next.ensures c.in-Some.is _ (gives_stepped _ _ run.is_valid c.in-Ok.ensures)
-
-pub put_result-requires-in-Err : goal.put_result-requires-in-Err
-put_result-requires-in-Err c =
-    let run = c.loop-command.invariant in
-    let none : c.default.result ≡ no_words = search rules in
-    rw (c.number.ensures, none)
-    (line_room run c.next_line-next.ensures c.in-Some.is _ (gives_stepped _ _ run.is_valid c.in-Err.ensures))
+    let read = c.next_line-next.ensures in
+    elim c.match-change_by.branch [
+      | in-Ok w ↦
+          rw w.answer-is (line_room run read c.in-Some.is _ (gives_stepped _ _ run.is_valid w.in-Ok.ensures))
+      | in-Err w ↦
+          let none : w.default.result ≡ no_words = search rules in
+          rw (w.answer-is, w.number.ensures, w.change_to.ensures, none)
+          (line_room run read c.in-Some.is _ (gives_stepped _ _ run.is_valid w.in-Err.ensures))
+    ]
 
 pub overflow_add-rest : goal.overflow_add-rest
 overflow_add-rest c =
@@ -57,19 +58,20 @@ loop-command-preserved c =
     let e = c.loop-command.e in
     let command = c.in-Some.command in
     let read = c.next_line-next.ensures in
+    let moved : c.if-change.e ≡ cond c.match-change_by.answer.1.moves (fifos_moved e command) e =
+    elim c.if-change.branch [
+      | then-change v ↦ rw (v.e-is, v.move_fifos-e.ensures, v.if-change.true) refl
+      | else-change v ↦ rw (v.e-is, v.if-change.false) refl
+    ] in
     rw (rest_is c.loop-command.rest.now (c.next_line-next.result.end + 1))
     (elim c.match-change_by.branch [
       | in-Ok w ↦
-          let moved : w.if-change.e ≡ cond w.in-Ok.change.moves (fifos_moved e command) e =
-          elim w.if-change.branch [
-            | then-change v ↦ rw (v.e-is, v.move_fifos-e.ensures, v.if-change.true) refl
-            | else-change v ↦ rw (v.e-is, v.if-change.false) refl
-          ] in
-          rw (w.writer-is, w.e-is, w.apply-e.ensures, moved)
-          (run_on run read c.in-Some.is _ (gives_stepped _ _ run.is_valid w.in-Ok.ensures) w.put_result.ensures)
+          let written = rw w.answer-is at c.put_result.ensures in
+          rw (c.apply-e.ensures, moved, w.answer-is)
+          (run_on run read c.in-Some.is _ (gives_stepped _ _ run.is_valid w.in-Ok.ensures) written)
       | in-Err w ↦
           let none : w.default.result ≡ no_words = search rules in
-          let written = rw (w.number.ensures, none) at w.put_result-in-Err.ensures in
-          let stepped = gives_stepped _ _ run.is_valid w.in-Err.ensures in
-          rw (w.writer-is, w.e-is) (run_on run read c.in-Some.is _ stepped written)
+          let written = rw (w.answer-is, w.number.ensures, w.change_to.ensures, none) at c.put_result.ensures in
+          rw (c.apply-e.ensures, moved, w.answer-is, w.change_to.ensures)
+          (run_on run read c.in-Some.is _ (gives_stepped _ _ run.is_valid w.in-Err.ensures) written)
     ])

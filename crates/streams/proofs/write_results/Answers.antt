@@ -16,12 +16,12 @@ consumed (Some whole) left sheet room full came gone =
     subst (Consumes (Some whole) left) (came ∙ ap (λ n. take n whole) full) gone
 
 -- the bytes written, where those of the whole sheet are known
-written : (known before after : Option (List ℕ)) (sheet out : List ℕ) (room : ℕ) → room ≡ 65537
-    → IfSome known (λ whole. sheet ≡ take room whole) → out ≡ results sheet → Appends before after out
+written : (known before after : Option (List ℕ)) (sheet : List ℕ) (room : ℕ) → room ≡ 65537
+    → IfSome known (λ whole. sheet ≡ take room whole) → Appends before after (results sheet)
     → IfSome known (λ whole. Appends before after (results whole))
-written None before after sheet out room full came same put = tt
-written (Some whole) before after sheet out room full came same put =
-    subst (Appends before after) (same ∙ ap results (came ∙ ap (λ n. take n whole) full) ∙ enough whole) put
+written None before after sheet room full came put = tt
+written (Some whole) before after sheet room full came put =
+    subst (Appends before after) (ap results (came ∙ ap (λ n. take n whole) full) ∙ enough whole) put
 
 -- what `map_err` gives is Ok only where what it was given was
 was_ok : {T E : Type 0} (r : Result T E) (x : T)
@@ -33,9 +33,9 @@ was_ok (Err e) x h = absurd h
 pub returns-clause-written : goal.returns-clause-written
 returns-clause-written g c =
     let read = was_ok c.read_until_full.result c.in_ok-count.count c.in_ok-count.ensures.cases in
-    let put = was_ok c.write_all.result c.in_ok-map_err.field-0 c.in_ok-map_err.ensures.cases in
-    written _ _ _ _ _ _ c.read_until_full.auto.buffer (rw read at c.read_until_full.ensures.front)
-    c.results_of-length.ensures.out_after (rw put at c.write_all.ensures.bytes)
+    let put = was_ok c.write_results_of.result c.in_ok-map_err.field-0 c.in_ok-map_err.ensures.cases in
+    written _ _ _ _ _ c.read_until_full.auto.buffer (rw read at c.read_until_full.ensures.front)
+    (rw put at c.write_results_of.ensures)
 
 pub returns-clause-read : goal.returns-clause-read
 returns-clause-read g c =

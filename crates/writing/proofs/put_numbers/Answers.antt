@@ -2,8 +2,8 @@
 use mathlib.Core.Path.{refl}
 use Rattle.numerals.proofs.Puts.{rest_whole, rest_less}
 use Rattle.writing.proofs.Rows.{row_first, row_next, row_end, row_none}
-use Rattle.writing.proofs.put_row.Goals as goal
-use Rattle.writing.proofs.put_row.Goals.{in-Some+else-loop-n-test, in_default}
+use Rattle.writing.proofs.put_numbers.Goals as goal
+use Rattle.writing.proofs.put_numbers.Goals.{in-Some+else-loop-n-test, in_default}
 
 pub loop-n-init : goal.loop-n-init
 loop-n-init c = rest_less (rest_whole c.requires) (row_first c.in-Some.ensures.cases.0) c.put_number.ensures
