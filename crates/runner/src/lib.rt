@@ -33,7 +33,7 @@ fn put_results(s: &[u8], writer: &mut TextWriter<'_>)
         let Some(command) = next.line else {
             return;
         };
-        // A refusal is the change that changes nothing: with one path for both the compiler leaves the FIFOs in place.
+        // A refusal is the change that changes nothing: with one path for both a line copies less of the record.
         let (answer, change) = match engine::change_by(e, command) {
             Ok(change) => (0, change),
             Err(refusal) => (
